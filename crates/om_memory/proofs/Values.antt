@@ -1,4 +1,4 @@
--- What a store holds, by what its trails and its other values hold.
+-- What a memory holds, by what its trails and its other values hold.
 use Rattle.std.proofs.Common.{◌≡◌, refl, sym, ap, ◌∙◌, subst, ℕ, Bool, true, false, cond, List, Some, None, map}
 use Rattle.std.specs.Prelude.{is_some, unwrap_or}
 use Rattle.std.proofs.Math.Path.{fun_ext}
@@ -135,22 +135,6 @@ is_control (obj.Group a) w e = cc
 is_control obj.Output w e = cc
 is_control (obj.Events a) w e = cc
 
--- what each reader gives there
-pub read_control : {X : Type 0} (f : Val → X) (x : X) (ts : List TrailView) (s : State) (o : Obj) (w : ℕ)
-    → worker_of o ≡ Some w → ((c : plain_controls.Control) → x ≡ f (value.Control c)) → x ≡ f (held_by ts s o)
-read_control f x ts s (obj.Control v) w e h = h _
-read_control f x ts s (obj.Cell a b c d) w e h = cc
-read_control f x ts s (obj.Global a b) w e h = cc
-read_control f x ts s (obj.Task a) w e h = cc
-read_control f x ts s (obj.Kids a) w e h = cc
-read_control f x ts s (obj.Pending a b) w e h = cc
-read_control f x ts s (obj.Arrived a b) w e h = cc
-read_control f x ts s (obj.Work a b) w e h = cc
-read_control f x ts s (obj.Lock a) w e h = cc
-read_control f x ts s (obj.Group a) w e h = cc
-read_control f x ts s obj.Output w e h = cc
-read_control f x ts s (obj.Events a) w e h = cc
-
 kept_value : (b : Bool) (v w : Val) → (b ≡ true → w ≡ v) → w ≡ cond b v w
 kept_value true v w h = h refl
 kept_value false v w h = refl
@@ -210,10 +194,10 @@ kept_grown ts us k more (obj.Group a) there = there
 kept_grown ts us k more obj.Output there = there
 kept_grown ts us k more (obj.Events a) there = there
 
--- what each reader gives elsewhere
+-- what each reader gives of an object that is no control
 pub read_other : {X : Type 0} (f : Val → X) (x : X) (ts : List TrailView) (s : State) (o : Obj)
-    → worker_of o ≡ None → x ≡ f (s o) → x ≡ f (held_by ts s o)
-read_other f x ts s o none is = is ∙ ap f (sym (value_there ts s o (untrailed o none)))
+    → is_trailed o ≡ false → x ≡ f (s o) → x ≡ f (held_by ts s o)
+read_other f x ts s o other is = is ∙ ap f (sym (value_there ts s o other))
 
 -- what changes no control changes nothing there
 pub control_stays : (f : Val → Val) (ts : List TrailView) (s : State) (o : Obj) (w : ℕ) → worker_of o ≡ Some w
@@ -223,11 +207,11 @@ control_stays f ts s o w e h = same_put o (f (held_by ts s o)) (held_by ts s)
     (subst (λ q. held_by ts s q ≡ f (held_by ts s q)) (sym (is_control o w e)) (h _))
 
 -- and what changes another value
-pub value_changed : (f : Val → Val) (ts : List TrailView) (s t : State) (o : Obj) → worker_of o ≡ None
+pub value_changed : (f : Val → Val) (ts : List TrailView) (s t : State) (o : Obj) → is_trailed o ≡ false
     → t ≡ with_value o (f (s o)) s → held_by ts t ≡ with_value o (f (held_by ts s o)) (held_by ts s)
-value_changed f ts s t o none is =
-    value_put ts s t o (f (s o)) (untrailed o none) is
-    ∙ ap (λ v. with_value o (f v) (held_by ts s)) (sym (value_there ts s o (untrailed o none)))
+value_changed f ts s t o other is =
+    value_put ts s t o (f (s o)) other is
+    ∙ ap (λ v. with_value o (f v) (held_by ts s)) (sym (value_there ts s o other))
 
 pub kept_too : (ts : List TrailView) (k : Obj → Bool) (o : Obj) → is_trailed o ≡ false → kept_by ts k o ≡ true
     → k o ≡ true

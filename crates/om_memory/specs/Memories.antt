@@ -1,4 +1,4 @@
--- A store as a state, what it keeps, and what its trails keep.
+-- A memory as a state, what it keeps, and what its trails keep.
 use Rattle.std.specs.Prelude.{◌≡◌, ℕ, Bool, true, cond, Option, None, Some, is_some, List, [], ◌∷◌, map, drop, slice_get}
 use Rattle.om_foot.specs.declared.object.Obj.{Obj}
 use Rattle.om_foot.specs.declared.object.Obj.TheVariants as obj

@@ -6,8 +6,7 @@
 //!
 //! - `control` has a control in the form that is changed in place, and what takes an edit of it back
 //!   (`Inverse`). `frame`, `context` and `edit` make the edits, each of the least part that it changes.
-//! - `tape` is a stack in which what is taken stays above the top until something is pushed over it. `log` is
-//!   a list that grows and shrinks at its end.
+//! - `tape` is a stack in which what is taken stays above the top until something is pushed over it.
 //! - `trail` is a control with what takes its changes back, up to its first. `live` makes such a control of a
 //!   plain one, and `copy` a plain one of it.
 //! - `fault_after` finds the fault to which edits would lead, without making them.
@@ -22,7 +21,6 @@ pub mod copy;
 pub mod edit;
 pub mod frame;
 pub mod live;
-pub mod log;
 pub mod memory;
 pub mod tape;
 pub mod trail;
@@ -31,7 +29,6 @@ pub use control::{Context, Control, Frame, Inverse, Stack};
 pub use copy::plain_of;
 pub use edit::fault_after;
 pub use live::control_of;
-pub use log::Log;
 pub use memory::{Memory, worker_of};
 pub use tape::Tape;
 pub use trail::Trail;

@@ -100,12 +100,10 @@ impl Memory {
 
     /// The cell that a cell of a variable holds.
     pub fn cell(&self, alloc: Global, object: &Obj) -> Cell
+        requires { is_trailed object.now ≡ false }
         ensures { result ≡ cell_in (state_of self.now object.now) }
     {
-        match worker_of(object) {
-            Some(_) => Cell::Unset,
-            None => self.values.cell(alloc, object),
-        }
+        self.values.cell(alloc, object)
     }
 
     /// The task of a name; `None` stands for one that was never made.
@@ -132,14 +130,12 @@ impl Memory {
         self.values.next_ready(after)
     }
 
-    /// The number that an object holds, or 0.
+    /// The number that an object that is no control holds, or 0.
     pub fn number(&self, alloc: Global, object: &Obj) -> u64
+        requires { is_trailed object.now ≡ false }
         ensures { result ≡ number_in (state_of self.now object.now) }
     {
-        match worker_of(object) {
-            Some(_) => 0,
-            None => self.values.number(alloc, object),
-        }
+        self.values.number(alloc, object)
     }
 
     /// The worker that holds the lock of this number, if one does.
@@ -149,25 +145,21 @@ impl Memory {
         self.values.holder(lock)
     }
 
-    /// The count that an object holds, if it holds one.
+    /// The count that an object that is no control holds, if it holds one.
     pub fn count(&self, alloc: Global, object: &Obj) -> Option<i128>
+        requires { is_trailed object.now ≡ false }
         ensures { result ≡ count_of (state_of self.now object.now) }
     {
-        match worker_of(object) {
-            Some(_) => None,
-            None => self.values.count(alloc, object),
-        }
+        self.values.count(alloc, object)
     }
 
     /// How many items the output or a worker's events hold.
     pub fn items(&self, object: &Obj) -> usize
-        requires { is_kept self.now object.now ≡ true }
+        requires no_control { is_trailed object.now ≡ false }
+        requires kept { is_kept self.now object.now ≡ true }
         ensures { result ≡ items_of (state_of self.now object.now) }
     {
-        match worker_of(object) {
-            Some(_) => 0,
-            None => self.values.items(object),
-        }
+        self.values.items(object)
     }
 
     /// A copy of what an object holds; its only error is out of memory.
@@ -357,10 +349,11 @@ impl Memory {
         }
     }
 
-    /// Appends to the output or to events at an object that is kept; another value stays. When out
-    /// of memory, nothing changes.
+    /// Appends to the output or to events at an object that is no control and is kept; another value
+    /// stays. When out of memory, nothing changes.
     pub fn append(&mut self, object: &Obj, tail: Tail) -> AllocResult<()>
-        requires { is_kept self.old object.now ≡ true }
+        requires no_control { is_trailed object.now ≡ false }
+        requires kept { is_kept self.old object.now ≡ true }
         ensures state { OnOk result
             (state_of self.new ≡ with_value object.now
             (value_with tail (state_of self.old object.now)) (state_of self.old)) }
@@ -368,26 +361,21 @@ impl Memory {
         ensures kept { (q : Obj) → is_kept self.new q ≡ is_kept self.old q }
         ensures same_state_on_error { OnErr result (state_of self.new ≡ state_of self.old) }
     {
-        match worker_of(object) {
-            Some(_) => Ok(()),
-            None => self.values.append(object, tail),
-        }
+        self.values.append(object, tail)
     }
 
-    /// Leaves so many items of the output or of events at an object that is kept; another value
-    /// stays. It takes no memory.
+    /// Leaves so many items of the output or of events at an object that is no control and is kept;
+    /// another value stays. It takes no memory.
     pub fn cut(&mut self, object: &Obj, count: usize)
-        requires { is_kept self.old object.now ≡ true }
+        requires no_control { is_trailed object.now ≡ false }
+        requires kept { is_kept self.old object.now ≡ true }
         ensures state { state_of self.new
             ≡ with_value object.now (value_cut count (state_of self.old object.now))
             (state_of self.old) }
         ensures pasts { pasts_of self.new ≡ pasts_of self.old }
         ensures kept { (q : Obj) → is_kept self.new q ≡ is_kept self.old q }
     {
-        match worker_of(object) {
-            Some(_) => {}
-            None => self.values.cut(object, count),
-        }
+        self.values.cut(object, count);
     }
 
     /// Keeps cells of a slot, with the values that they hold, and answers them, shared with all that name

@@ -10,8 +10,7 @@ ghost use Rattle.om_memory.specs.Changed.{HasChanged, HasMade, logged, IsNoted};
 use crate::control::{Control, Inverse, Logged};
 use crate::edit::{apply, become_control, revert};
 use crate::live::control_of;
-use crate::log::Log;
-use om_seq::{AllocResult, Seq};
+use om_seq::{AllocResult, Pile, Seq};
 use om_state::{Control as PlainControl, Edit};
 use std::alloc::{AllocError, Global};
 use std::marker::Model;
@@ -23,7 +22,7 @@ use std::marker::Model;
 #[derive(Drop)]
 pub struct Trail {
     control: Control,
-    inverses: Log<Logged>,
+    inverses: Pile<Logged>,
 }
 
 impl Model for Trail {
@@ -41,7 +40,7 @@ impl Model for Trail {
 // Logs what takes an edit back that was made. When out of memory, the edit is taken back.
 fn log(
     control: &mut Control,
-    inverses: &mut Log<Logged>,
+    inverses: &mut Pile<Logged>,
     inverse: Inverse,
     begins: bool,
 ) -> AllocResult<()>
@@ -62,7 +61,7 @@ fn log(
 fn edit_logged(
     alloc: Global,
     control: &mut Control,
-    inverses: &mut Log<Logged>,
+    inverses: &mut Pile<Logged>,
     edit: Edit,
     begins: bool,
 ) -> AllocResult<()>
@@ -83,7 +82,7 @@ fn edit_logged(
 fn edit_all(
     alloc: Global,
     control: &mut Control,
-    inverses: &mut Log<Logged>,
+    inverses: &mut Pile<Logged>,
     edits: Vec<Edit>,
 ) -> AllocResult<()>
     requires room { HaveRoom edits.items (plain_control control.old) }
@@ -113,7 +112,7 @@ fn edit_all(
 }
 
 // Goes back to where the latest change began. It takes no memory.
-fn rewind(control: &mut Control, inverses: &mut Log<Logged>)
+fn rewind(control: &mut Control, inverses: &mut Pile<Logged>)
     requires can_rewind { CanRewind inverses.old control.old }
     requires stepped { 0 < length (past_of inverses.old control.old) }
     ensures past { plain_control control.new ∷ past_of inverses.new control.new
@@ -139,7 +138,7 @@ impl Trail {
     {
         Trail {
             control,
-            inverses: Log::new(alloc),
+            inverses: Pile::new(alloc),
         }
     }
 

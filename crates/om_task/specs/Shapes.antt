@@ -15,8 +15,8 @@ use Rattle.om_state.specs.declared.value.Val.TheVariants as value
 use Rattle.om_state.specs.Rules.{Rules, control_access}
 use Rattle.om_task.specs.Rules.{rules_of}
 
--- the first of the next four is that of om_memory Stores, by cases; the others are those of om_undo_history Shapes once
--- more, since neither om_task nor om_undo_history depends on the other
+-- the first of the next four is that of om_memory Memories, by cases; the others are those of om_undo_history Shapes
+-- once more, since neither om_task nor om_undo_history depends on the other
 
 -- whether an object is a worker's control
 abbrev pub is_trailed : Obj → Bool

@@ -1,3 +1,4 @@
 mod Lists
 pub mod Returns
 pub mod Same
+mod Variables

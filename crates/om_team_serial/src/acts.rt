@@ -14,7 +14,6 @@ ghost use Rattle.om_team_serial.specs.Answers.{Gives, AnswersAt};
 
 use crate::names::{name_one, name_place, name_slot, operands_of};
 use crate::parts::one_put;
-use crate::row::only;
 use crate::updates::put_each;
 use crate::{Answer, Row};
 use om_code::frame::Cell;
@@ -63,7 +62,7 @@ fn row_of(alloc: Global, next: u32, updates: Puts, turn: Turn) -> AllocResult<Ro
                 None => updates,
             };
             let to = jump.unwrap_or(next + 1);
-            let edits = only(alloc, Edit::Go { to, takes, pushed })?;
+            let edits = Seq::one(alloc, Edit::Go { to, takes, pushed })?;
             Ok(Row::Goes { edits, updates })
         }
         Turn::Faults(fault) => Ok(Row::Faults(fault)),

@@ -1,9 +1,9 @@
-//! Rows: a row says which objects an instruction touches, how, and what it changes. Here: rows of serial code,
-//! calls, returns, reductions; what rows are made of: names of objects, homes of slots, updates, counts of tasks.
+//! Rows: what serial code, calls, returns and reductions touch and change; what rows are made of: names, updates.
 //!
-//! A row is a function. It answers which objects an instruction names beside its worker's control, and what
-//! comes of their values (`Answer`, `Row`). That is edits of the control with updates, a fault, why the
-//! worker is blocked, or that something is missing. It changes nothing, and its only error is out of memory.
+//! A row is a function. It answers which objects an instruction names beside its worker's control, in which
+//! mode, and what comes of their values (`Answer`, `Row`). That is edits of the control with updates, a fault,
+//! why the worker is blocked, or that something is missing. It changes nothing, and its only error is out of
+//! memory.
 //!
 //! - `specs/Rows` has that form, and `specs/SerialRows` the rows of serial code. `acts` has the rows of the
 //!   frame machine of om_code (`serial`); `frames` has calls, returns, reductions and the numbers of threads.

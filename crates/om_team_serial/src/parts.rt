@@ -1,15 +1,14 @@
 //! What rows are made of: edits, names and updates that many of them have, and whether a count of
 //! unfinished tasks is 0.
 
-ghost use Rattle.std.specs.Prelude.{◌∷◌, [], None, ◌≡◌};
+ghost use Rattle.std.specs.Prelude.{◌∷◌, [], None, ◌≡◌, false};
 ghost use Rattle.om_state.specs.Values.{count_in};
-ghost use Rattle.om_memory.specs.Memories.{state_of};
+ghost use Rattle.om_memory.specs.Memories.{state_of, is_trailed};
 ghost use Rattle.om_team_serial.specs.Objects.{events, event};
 ghost use Rattle.om_team_serial.specs.Answers.{Gives};
 ghost use Rattle.om_team_serial.specs.Rows.{is_zero};
 
 use crate::names::{name_events, name_one};
-use crate::row::only;
 use crate::updates::put_event;
 use crate::{Answer, Row};
 use om_events::Record;
@@ -35,7 +34,7 @@ pub fn go_on(alloc: Global, to: u32) -> AllocResult<Seq<Edit>>
         takes: 0,
         pushed: None,
     };
-    only(alloc, go)
+    Seq::one(alloc, go)
 }
 
 /// The edits that go to a place with so many operands taken, and then make one more.
@@ -119,13 +118,15 @@ pub fn recorded(alloc: Global, worker: u8, edits: Seq<Edit>, entry: Record) -> A
 
 // The count that an object holds, or 0.
 fn count_at(alloc: Global, store: &Memory, object: &Obj) -> i128
+    requires { is_trailed object.now ≡ false }
     ensures { result ≡ count_in (state_of store.now object.now) }
 {
     store.count(alloc, object).unwrap_or(0)
 }
 
-/// Whether the count that an object holds is 0; one that holds no count has 0.
+/// Whether the count that an object that is no control holds is 0; one that holds no count has 0.
 pub fn is_zero(alloc: Global, store: &Memory, object: &Obj) -> bool
+    requires { is_trailed object.now ≡ false }
     ensures { result ≡ is_zero (count_in (state_of store.now object.now)) }
 {
     count_at(alloc, store, object) == 0

@@ -1,6 +1,6 @@
 //! What an instruction asks of the state, and what comes of it.
 
-ghost use Rattle.std.specs.Prelude.{◌≡◌, ◌∷◌, []};
+ghost use Rattle.std.specs.Prelude.{◌≡◌, []};
 ghost use Rattle.om_team_serial.specs.Rows.{goes};
 ghost use Rattle.om_team_serial.specs.Answers.{Gives};
 
@@ -43,17 +43,6 @@ pub struct Launch {
     pub body: u32,
 }
 
-/// One item alone, with room for no others: it is let go within the step.
-pub(crate) fn only<T>(alloc: Global, item: T) -> AllocResult<Seq<T>>
-where
-    T: Drop,
-    ensures { Gives result (item ∷ []) }
-{
-    let mut items = Vec::with_capacity(alloc, 1)?;
-    items.push_reserved(item);
-    Ok(Seq::of(items))
-}
-
 impl Answer {
     /// The answer that control, program and choice decide alone. It takes no memory.
     pub fn decided(alloc: Global, row: Row) -> Answer
@@ -77,7 +66,7 @@ impl Row {
     ) -> AllocResult<Row>
         ensures { Gives result (goes to takes pushed updates) }
     {
-        let edits = only(alloc, Edit::Go { to, takes, pushed })?;
+        let edits = Seq::one(alloc, Edit::Go { to, takes, pushed })?;
         Ok(Row::Goes { edits, updates })
     }
 }

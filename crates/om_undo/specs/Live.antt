@@ -9,7 +9,7 @@ use Rattle.om_memory.specs.contracts.control.Control as control
 use Rattle.om_memory.specs.contracts.control.Frame as frame
 use Rattle.om_memory.specs.contracts.control.Inverse as inverse
 use Rattle.om_memory.specs.contracts.control.Stack as stack
-use Rattle.om_memory.specs.contracts.log.Log as log
+use Rattle.om_seq.specs.contracts.pile.Pile as log
 use Rattle.om_memory.specs.contracts.tape.Tape as tape
 use Rattle.om_memory.specs.contracts.trail.Trail as trail
 use Rattle.om_undo.specs.Shared.{shared_send}

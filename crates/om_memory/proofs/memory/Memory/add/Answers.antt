@@ -36,7 +36,7 @@ returns-in-None-clause-state c =
     let fits : FitsSigned w128 c.args.number = search rules in
     let s = (values.state_of c.args.self.now.values) in
     value_changed (value_plus c.args.number) c.args.self.now.trails.items s _ c.args.object.now
-    (sym c.worker_of.ensures ∙ c.in-None.is)
+    (untrailed c.args.object.now (sym c.worker_of.ensures ∙ c.in-None.is))
     (c.add.ensures.state ∙ ap (λ n. with_value c.args.object.now (value_plus n (s c.args.object.now)) s)
     (to_z-of_z w128 c.args.number fits))
 

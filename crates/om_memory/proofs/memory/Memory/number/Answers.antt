@@ -1,16 +1,10 @@
-use Rattle.std.proofs.Common.{◌∙◌, sym, refl}
 use Rattle.om_cells.specs.Stores as values
 use Rattle.om_state.specs.Values.{number_in}
 use Rattle.om_memory.specs.Memories.{state_of}
-use Rattle.om_memory.proofs.Values.{read_control, read_other}
+use Rattle.om_memory.proofs.Values.{read_other}
 use Rattle.om_memory.proofs.memory.Memory.number.Goals as goal
 
-pub returns-in-Some : goal.returns-in-Some
+pub returns : goal.returns
 unfolding state_of
-returns-in-Some c = read_control number_in 0 c.args.self.now.trails.items (values.state_of c.args.self.now.values)
-    c.args.object.now _ (sym c.worker_of.ensures ∙ c.in-Some.is) (λ control. refl)
-
-pub returns-in-None : goal.returns-in-None
-unfolding state_of
-returns-in-None c = read_other number_in _ c.args.self.now.trails.items (values.state_of c.args.self.now.values)
-    c.args.object.now (sym c.worker_of.ensures ∙ c.in-None.is) c.number.ensures
+returns c = read_other number_in _ c.args.self.now.trails.items (values.state_of c.args.self.now.values)
+    c.args.object.now c.requires c.number.ensures
