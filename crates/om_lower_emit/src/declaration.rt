@@ -15,15 +15,14 @@ use crate::spot::Here;
 use crate::unused::effect;
 use crate::writing::{ScopeStack, Writing};
 use om_code::Instr;
-use om_scope_tree::{LocalVariable, ResolvedDeclarator, ResolvedExpression, ResolvedStart, Variable};
+use om_scope_tree::{
+    LocalVariable, ResolvedDeclarator, ResolvedExpression, ResolvedStart, Variable,
+};
 use om_seq::AllocResult;
 
 /// Begins the scopes of the parameters of a function, which are in scope in all of its body (C17 6.2.1p4). They
 /// need no code: a call gives them their values.
-pub fn begin_parameters(
-    scopes: &mut ScopeStack,
-    parameters: &[LocalVariable],
-) -> AllocResult<()>
+pub fn begin_parameters(scopes: &mut ScopeStack, parameters: &[LocalVariable]) -> AllocResult<()>
     ensures { BeginsEach result parameter_scope parameters.now scopes.old scopes.new }
 {
     for parameter in parameters {
