@@ -2,5 +2,5 @@ use Rattle.std.proofs.Common.{rules}
 use Rattle.om_team_serial.proofs.Variables.{variable_untrailed}
 use Rattle.om_team_serial.proofs.acts.at_cell.Goals as goal
 
-pub cell-requires : goal.cell-requires
-cell-requires c = search (rules, variable_untrailed)
+pub cell-cell-requires : goal.cell-cell-requires
+cell-cell-requires c = search (rules, variable_untrailed)
