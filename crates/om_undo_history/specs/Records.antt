@@ -80,11 +80,11 @@ reply_before (Some k) later = first_kept_conflict k.footprint later (Undone k.en
 abbrev pub kept_reply : List UndoRecord → ℕ → UndoReply
 kept_reply ks i = reply_before (slice_get ks i) (drop (i + 1) ks)
 
--- what an undo replies where one record alone was made after the undone one: the conflict of the two, if there is
--- one, or else that the step is undone
-abbrev pub RepliesAgainst : UndoRecord → ℕ → UndoReply → UndoRecord → Type 0
-RepliesAgainst undone serial reply made = reply ≡ conflict_or made.entry (conflict_of undone.footprint made.footprint)
-    (Undone serial undone.entry.line)
+-- a reply refuses an undo for another record: the two conflict, and it names that one and the first object at which
+-- they do
+abbrev pub Refuses : UndoRecord → UndoReply → UndoRecord → Type 0
+Refuses undone reply made = (q : Obj) × (conflict_of undone.footprint made.footprint ≡ Some q)
+    × (reply ≡ Conflict made.entry.serial made.entry.worker q)
 
 abbrev pub is_undone : UndoReply → Bool
 is_undone (Undone serial line) = true
