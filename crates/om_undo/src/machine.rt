@@ -26,7 +26,7 @@ use om_task::laws::low_counters;
 use om_task::planning::{Planning, is_at_scheduling_point, line, plan_by};
 use om_task::start::started;
 use om_task::{Choice, Plan};
-use om_undo_history::history::start_of;
+use om_undo_history::history::kept_choice;
 use om_undo_history::{History, RollReply, StepReply, Taken, UndoReply};
 use std::alloc::Global;
 use std::marker::Model;
@@ -241,7 +241,7 @@ impl Machine {
         ensures unchanged_on_error { OnErr result (self.new ≡ self.old) }
     {
         let label = label(worker, &choice);
-        let start = start_of(alloc, &choice)?;
+        let start = kept_choice(alloc, &choice)?;
         let plan = planned(alloc, &self.program, self.workers, &self.history, &label)?;
         taken(&mut self.history, alloc, worker, start, plan)
     }
@@ -264,7 +264,7 @@ impl Machine {
         requires { worker < self.now.workers }
         ensures { IfOk result (λ p. p ≡ planned_at self.now (label_at worker choice.now)) }
     {
-        let start = start_of(alloc, choice)?;
+        let start = kept_choice(alloc, choice)?;
         let planning = &Planning {
             worker,
             workers: self.workers,

@@ -155,7 +155,7 @@ impl History {
         ensures after { OnOk result (TakesChange label.now change self.old self.new) }
         ensures unchanged_on_error { OnErr result (Stays self.old self.new) }
     {
-        match start_of(alloc, &label.choice) {
+        match kept_choice(alloc, &label.choice) {
             Ok(start) => self.take_by(alloc, label.worker, start, change),
             Err(error) => {
                 drop(change);
@@ -244,8 +244,9 @@ impl History {
     }
 }
 
-/// The name of the task that a choice starts, if it does. Its only error is out of memory.
-pub fn start_of(alloc: Global, choice: &Choice) -> AllocResult<Option<Box<Name>>>
+/// A choice as a planned step and an undo record of the history keep it: the name of the task that it
+/// starts, if it does. Its only error is out of memory.
+pub fn kept_choice(alloc: Global, choice: &Choice) -> AllocResult<Option<Box<Name>>>
     ensures { IfOk result (λ start. choice_of start ≡ choice.now) }
 {
     let Choice::Start(name) = choice else {
