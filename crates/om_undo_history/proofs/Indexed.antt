@@ -14,14 +14,14 @@ use Rattle.om_undo_history.specs.declared.reply.UndoReply.TheVariants.{Undone}
 use Rattle.om_undo_history.specs.declared.records.UndoRecord.{UndoRecord}
 use Rattle.om_undo_touches.specs.declared.own.OwnEntries.{OwnEntries}
 use Rattle.om_undo_touches.specs.declared.touches.TouchLists.{TouchLists}
-use Rattle.om_undo_history.specs.Records.{conflict_or, kept_reply, AreBelow, Refuses}
+use Rattle.om_undo_history.specs.Records.{conflict_or, kept_reply, record_with, AreBelow, Refuses}
 use Rattle.om_undo_touches.specs.Touches.{names as names_it, has_touch, meets, AreSame, AreWith}
 use Rattle.om_foot.specs.Firsts.{IsFirst}
 use Rattle.om_undo_history.specs.Touches.{touched, AreBySerial, AreListsOf}
 use Rattle.om_undo_touches.specs.Touches.{AreOnly, AreWithout, is_own, SameOwn, WithOwn, WithoutOwn}
 use Rattle.om_undo_history.specs.Touches.{AreOwnOf, ConflictsAt, IsIndexed}
 use Rattle.om_undo_history.proofs.Touched.{touched-at, touched-below, touched-remove}
-use Rattle.om_undo_history.proofs.BySerial.{rising, IsFound, is_found, Stands, stands, values-push, by_serial-push}
+use Rattle.om_undo_history.proofs.BySerial.{at_is, rising, IsFound, is_found, Stands, stands, values-push, by_serial-push}
 use Rattle.om_undo_history.proofs.Members.{lists-push}
 use Rattle.om_undo_history.proofs.OwnEntries.{own-push, own-remove}
 use Rattle.om_undo_history.proofs.Replies.{footprint_of, found_behind, met_is, reply_none, reply_some}
@@ -189,3 +189,14 @@ only_of es serial k lists own h there o m is =
     let place : Stands es serial k = stands 0 es serial k h.by_serial there in
     sym (touched-at footprint_of 0 (values_of es) place.i k o m (rising 0 es h.by_serial) place.at)
     ∙ sym (h.touches o m k.entry.serial) ∙ is
+
+-- the look-up of a serial finds the record with it
+pub look-up : (low : ℕ) (es : List (ℕ × UndoRecord)) (serial : ℕ) → AreBySerial low es
+    → lookup (is_at (nat_cmp serial)) es ≡ record_with serial (values_of es)
+look-up low [] serial h = refl
+look-up low (e ∷ es) serial h =
+    (λ j. cond (same j) (Some e.1) (lookup (is_at (nat_cmp serial)) es))
+    ∙ ap (cond (nat_eq e.1.entry.serial serial) (Some e.1)) (look-up e.0 es serial h.2)
+  where
+    same : is_at (nat_cmp serial) e.0 ≡ nat_eq e.1.entry.serial serial
+    same = at_is serial e.0 ∙ ap (λ n. nat_eq n serial) h.1

@@ -1,5 +1,5 @@
 -- Undo records against the replay of their entries.
-use Rattle.std.specs.Prelude.{◌≡◌, ◌≢◌, Bool, true, false, Option, None, Some, List, [], ◌∷◌, map, All, ℕ, ◌+◌, ◌<◌}
+use Rattle.std.specs.Prelude.{◌≡◌, ◌≢◌, Bool, true, false, cond, nat_eq, Option, None, Some, List, [], ◌∷◌, map, All, ℕ, ◌+◌, ◌<◌}
 use Rattle.std.specs.Prelude.{drop, reverse, slice_get, remove}
 use Rattle.std.specs.List.{AllByRecursion}
 use Rattle.om_foot.specs.declared.object.Obj.{Obj}
@@ -107,6 +107,11 @@ pub record LastHasSerial (w : ℕ) (ks : List UndoRecord) (serial : ℕ) : Type 
 -- one of the records has this serial
 abbrev pub HasSerial : ℕ → List UndoRecord → Type 0
 HasSerial serial ks = (i : ℕ) × (k : UndoRecord) × (slice_get ks i ≡ Some k) × (k.entry.serial ≡ serial)
+
+-- the record with this serial, where one has it
+abbrev pub record_with : ℕ → List UndoRecord → Option UndoRecord
+record_with serial [] = None
+record_with serial (k ∷ ks) = cond (nat_eq k.entry.serial serial) (Some k) (record_with serial ks)
 
 -- something is so of the record with a serial, and of its index
 abbrev pub OfSerial : ℕ → List UndoRecord → (ℕ → UndoRecord → Type 0) → Type 0

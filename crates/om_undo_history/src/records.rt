@@ -1,12 +1,12 @@
 //! Undo records: the history's entries, each with its footprint and what takes it back.
 
-ghost use Rattle.std.specs.Prelude.{◌≡◌, ◌≢◌, ◌<◌, ◌∷◌, ◌++◌, [], IfOk, OnOk, OnErr, IfErr, IfSome, IfNone, All, false};
+ghost use Rattle.std.specs.Prelude.{◌≡◌, ◌≢◌, ◌<◌, ◌∷◌, ◌++◌, [], None, Some, IfOk, OnOk, OnErr, IfErr, IfSome, IfNone, All, false};
 ghost use Rattle.std.specs.Map.{values_of};
 ghost use Rattle.om_foot.specs.declared.object.Obj.{Obj};
 ghost use Rattle.om_foot.specs.declared.footprint.Mode.{Mode};
 ghost use Rattle.om_undo_touches.specs.Touches.{has_touch, meets, AreOnly, AreSame, AreWithout, SameOwn, WithoutOwn};
 ghost use Rattle.om_foot.specs.Firsts.{IsFirst};
-ghost use Rattle.om_undo_history.specs.Records.{entries_of, cone_in, roll_in, LastHasSerial, HasSerial, AreBelow, IsOfSerial, LosesSerial, RepliesToUndo, CanUndo, Refuses};
+ghost use Rattle.om_undo_history.specs.Records.{entries_of, cone_in, roll_in, LastHasSerial, HasSerial, AreBelow, IsOfSerial, LosesSerial, RepliesToUndo, CanUndo, Refuses, record_with};
 ghost use Rattle.om_undo_history.specs.Touches.{AreBySerial, AreListsOf, IsIndexed, NotesTouches, NotesOwn, TellsMeets, TellsMember, ConflictsAt, record_at};
 
 use crate::by_serial::BySerial;
@@ -231,6 +231,14 @@ impl Records {
             lists: TouchLists::new(alloc),
             own: OwnEntries::new(alloc),
         }
+    }
+
+    /// The record with a serial, where one has it. It takes no memory.
+    pub(crate) fn get(&self, serial: u64) -> Option<&Kept>
+        ensures found { IfSome result (λ k. record_with serial self.now ≡ Some k.now) }
+        ensures none { IfNone result (record_with serial self.now ≡ None) }
+    {
+        self.kept.get(serial)
     }
 
     /// The serial of a worker's last entry; `None` where it has none. It takes no memory.
