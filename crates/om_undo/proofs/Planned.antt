@@ -1,5 +1,5 @@
 -- What a plan says of the step that it stands for.
-use Rattle.std.proofs.Common.{◌≡◌, ap, sym, ◌∙◌, subst, ◌+◌, ℕ, true, false, Option, List}
+use Rattle.std.proofs.Common.{◌≡◌, ap, sym, ◌∙◌, subst, ◌+◌, ℕ, true, false, Option, None, Some, List}
 use Rattle.std.specs.Prelude.{unwrap_or, Result, Ok, Err, IfOk, OnOk, OnErr}
 use Rattle.std.specs.Global.{Box}
 use Rattle.om_foot.specs.declared.object.Obj.TheVariants as obj
@@ -28,7 +28,7 @@ use Rattle.om_undo_history.specs.Replayed.{ReplaysTo-replay}
 use Rattle.om_code.specs.declared.raw.Raw.{Raw}
 use Rattle.om_task.specs.Rules.{rules_of}
 use Rattle.om_undo.specs.Machines.{IsPlan, MachineView, PlansAt, RepliesToPlan, TakesPlan, rules_for, state_in}
-use Rattle.om_undo.specs.PlannedSteps.{IsPlanAt, PlannedView, is_made, planned_at}
+use Rattle.om_undo.specs.PlannedSteps.{IsPlanAt, PlannedView, footprint_if_made, if_updates, is_made, planned_at, touched_if_made}
 use Rattle.om_undo.proofs.Views.{view_of}
 
 -- where a plan with a change is made, the step that the change stands for is planned
@@ -165,3 +165,22 @@ not_made_by_ended m l p e is =
     let s : State = state_in m in
     sym (ap (λ (o : Outcome). is_made (reply_for (m.history.made + 1) (step_at (rules_for m) s l).line o))
     (subst (PlansAt (rules_for m) l s) e is.planned))
+
+-- and so is what it touches
+
+pub touched_by_updates : (m : MachineView) (l : Label) (p : Plan) (change : Change) → p ≡ plan.Updates change
+    → IsPlanAt m l p → Some change.footprint ≡ touched_if_made m l
+touched_by_updates m l p change e is =
+    sym (ap footprint_if_made (subst (PlansAt (rules_for m) l (state_in m)) e is.planned))
+
+pub untouched_by_blocked : (m : MachineView) (l : Label) (p : Plan) (b : Blocked) → p ≡ plan.Blocked b
+    → IsPlanAt m l p → None ≡ touched_if_made m l
+untouched_by_blocked m l p b e is =
+    let d : Step = step_at (rules_for m) (state_in m) l in
+    sym (ap (if_updates d.footprint) (subst (PlansAt (rules_for m) l (state_in m)) e is.planned))
+
+pub untouched_by_ended : (m : MachineView) (l : Label) (p : Plan) → p ≡ plan.Ended
+    → IsPlanAt m l p → None ≡ touched_if_made m l
+untouched_by_ended m l p e is =
+    let d : Step = step_at (rules_for m) (state_in m) l in
+    sym (ap (if_updates d.footprint) (subst (PlansAt (rules_for m) l (state_in m)) e is.planned))

@@ -1,5 +1,5 @@
 -- What is promised of a machine at hand: the headline, at its own history.
-use Rattle.std.specs.Prelude.{◌≡◌, Bool, false, ℕ, Option}
+use Rattle.std.specs.Prelude.{◌≡◌, ℕ, Option}
 use Rattle.om_code.specs.declared.frame.Fault.{Fault}
 use Rattle.om_state.specs.declared.step.Label.{Label}
 use Rattle.om_undo_history.specs.declared.reply.StepReply.TheVariants.{Done}

@@ -1,6 +1,7 @@
 -- What contracts see of a machine, and what is true of its fields.
-use Rattle.std.specs.Prelude.{◌≡◌, ℕ, ◌≤◌, Some, List, map}
+use Rattle.std.specs.Prelude.{◌≡◌, ℕ, ◌≤◌, Option, Some, List, map}
 use Rattle.om_code.specs.declared.raw.Raw.{Raw}
+use Rattle.om_foot.specs.declared.footprint.Access.{Access}
 use Rattle.om_foot.specs.declared.object.Obj.TheVariants as obj
 use Rattle.om_state.specs.State.{State}
 use Rattle.om_state.specs.Values.{control_in}
@@ -18,6 +19,7 @@ use Rattle.om_undo_history.specs.Runs.{History, no_history, label_of, state_of_e
 use Rattle.om_undo_history.specs.Runs.{reply_to_step, after_step, after_undo}
 use Rattle.om_undo_history.specs.Cones.{taken_by_roll, reply_to_roll, after_roll}
 use Rattle.om_undo_history.specs.Commands.{TakesCone}
+use Rattle.om_undo_history.specs.Standing.{footprint_with}
 use Rattle.om_undo_history.specs.Pasts.{past_in, history_in, IsHeld}
 
 -- a machine's program, its number of workers, and its history
@@ -77,6 +79,10 @@ TakesOut taken old new = (serial : ℕ) → taken ≡ rolled_from old serial →
 -- the cone of the entry with a serial is taken out, and nothing else
 abbrev pub TakesItsCone : ℕ → MachineView → MachineView → Type 0
 TakesItsCone serial old new = TakesCone (rules_for old) old.history serial new.history
+
+-- the footprint of the step whose entry has a serial
+abbrev pub footprint_in : MachineView → ℕ → Option (List Access)
+footprint_in m serial = footprint_with (rules_for m) m.history serial
 
 -- there are 1 to 32 workers, and the history is held under the rules of the program
 pub record IsSound (program : Raw) (workers : ℕ) (history : kept.History) : Type 0 where

@@ -11,9 +11,10 @@ ghost use Rattle.om_undo_history.specs.Choices.{choice_of, label_by};
 ghost use Rattle.om_undo_history.specs.Runs.{reply_to_step, reply_to_undo};
 ghost use Rattle.om_undo_history.specs.Commands.{IsRun, IsGone, Rise};
 ghost use Rattle.om_undo_history.specs.Pasts.{past_in, IsHeld, Stays};
+ghost use Rattle.om_undo_history.specs.Standing.{accesses_in};
 ghost use Rattle.om_undo.specs.Exactness.{IsExact, UndoesExactly};
-ghost use Rattle.om_undo.specs.Machines.{rules_for, state_in, control_at, at_start, step_reply, with_step, with_undo, rolled_from, roll_reply, with_roll, TakesOut, TakesItsCone, IsPlan, RepliesToPlan, RepliesToWorker, TakesPlan};
-ghost use Rattle.om_undo.specs.PlannedSteps.{is_made, planned_at};
+ghost use Rattle.om_undo.specs.Machines.{rules_for, state_in, control_at, at_start, step_reply, with_step, with_undo, rolled_from, roll_reply, with_roll, TakesOut, TakesItsCone, footprint_in, IsPlan, RepliesToPlan, RepliesToWorker, TakesPlan};
+ghost use Rattle.om_undo.specs.PlannedSteps.{is_made, planned_at, touched_if_made};
 ghost use Rattle.om_undo.specs.ReadyNames.{ready_names};
 
 use crate::laws::{exactly_where, headline, shaped_rules, steady_rules};
@@ -21,13 +22,14 @@ use om_code::Program;
 use om_foot::{Name, Obj};
 use om_memory::Control;
 use om_seq::AllocResult;
-use om_state::{Entry, Label, Val};
+use om_state::{Entry, Footprint, Label, Val};
 use om_task::laws::low_counters;
 use om_task::planning::{Planning, is_at_scheduling_point, line, plan_by};
 use om_task::start::started;
 use om_task::{Choice, Plan};
-use om_undo_history::history::start_of;
+use om_undo_history::history::kept_choice;
 use om_undo_history::{History, RollReply, StepReply, Taken, UndoReply};
+use om_undo_touches::Accesses;
 use std::alloc::Global;
 use std::marker::Model;
 use std::snapshot::Snapshot;
@@ -116,6 +118,17 @@ impl PlannedStep {
         ensures { result ≡ self.now.label.choice }
     {
         choice_of(&self.start)
+    }
+
+    /// What it touches, its worker's control first; `None` where it can't be made. It takes no memory.
+    pub fn footprint(&self) -> Option<&Footprint>
+        ensures { option_copied result ≡ touched_if_made self.now.machine self.now.label }
+    {
+        match &self.plan {
+            Plan::Updates(change) => Some(&change.footprint),
+            Plan::Blocked(_) => None,
+            Plan::Ended => None,
+        }
     }
 
     /// Whether it can be made: it is neither blocked, nor has its worker ended.
@@ -241,7 +254,7 @@ impl Machine {
         ensures unchanged_on_error { OnErr result (self.new ≡ self.old) }
     {
         let label = label(worker, &choice);
-        let start = start_of(alloc, &choice)?;
+        let start = kept_choice(alloc, &choice)?;
         let plan = planned(alloc, &self.program, self.workers, &self.history, &label)?;
         taken(&mut self.history, alloc, worker, start, plan)
     }
@@ -264,7 +277,7 @@ impl Machine {
         requires { worker < self.now.workers }
         ensures { IfOk result (λ p. p ≡ planned_at self.now (label_at worker choice.now)) }
     {
-        let start = start_of(alloc, choice)?;
+        let start = kept_choice(alloc, choice)?;
         let planning = &Planning {
             worker,
             workers: self.workers,
@@ -391,6 +404,15 @@ impl Machine {
     {
         headline();
         self.history.entries(alloc)
+    }
+
+    /// What the step of the entry with a serial touches, its worker's control first: what the rules say in
+    /// the state before it, which the entries before it lead to. `None` where no entry has that serial.
+    /// It is what the entry's record keeps: nothing is made again, and it takes no memory.
+    pub fn footprint(&self, serial: u64) -> Option<&Accesses>
+        ensures { accesses_in (option_copied result) ≡ footprint_in self.now serial }
+    {
+        self.history.footprint(serial)
     }
 
     /// The control of a worker at the replay of the entries; `None` stands for an idle one. It takes

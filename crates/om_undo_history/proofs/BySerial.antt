@@ -1,7 +1,9 @@
 -- Records in a map by serial.
-use Rattle.std.proofs.Common.{◌≡◌, refl, sym, ◌∙◌, ap, subst, Bool, true, false, cond, ℕ, zero, suc, ◌<◌, ◌≤◌, arith}
+use Rattle.std.proofs.Common.{◌≡◌, refl, sym, ◌∙◌, ap, subst, Bool, true, false, cond, nat_eq, ℕ, zero, suc, ◌<◌, ◌≤◌, arith}
 use Rattle.std.proofs.Common.{Some, List, [], ◌∷◌, ◌++◌}
 use Rattle.std.specs.Prelude.{slice_get, remove}
+use Rattle.std.proofs.lemmas.Bool.{true≢false}
+use Rattle.std.proofs.lemmas.Bool.Decides.{Decides-eqb}
 use Rattle.std.specs.Ordering.{nat_cmp, is_eq}
 use Rattle.std.specs.Cmp.{nat_cmp_is}
 use Rattle.std.specs.declared.cmp.Ordering.TheVariants.{Equal, Greater}
@@ -10,13 +12,25 @@ use Rattle.std.specs.Map.{lookup, remove_entry, values_of}
 use Rattle.om_undo_history.specs.declared.records.UndoRecord.{UndoRecord}
 use Rattle.om_undo_history.specs.Records.{AreBelow, AreAbove}
 use Rattle.om_undo_history.specs.Touches.{AreBySerial}
-use Rattle.om_undo_history.proofs.Touched.{Rising, rising_at}
+use Rattle.om_undo_history.proofs.Touched.{Rising, rising_at, nat_self}
 
 pub at_same : (s q : ℕ) → q ≡ s → is_at (nat_cmp s) q ≡ true
 at_same s q e = ap is_eq (sym (nat_cmp_is s q Equal (sym e)))
 
 pub at_other : (s q : ℕ) → q < s → is_at (nat_cmp s) q ≡ false
 at_other s q lt = ap is_eq (sym (nat_cmp_is s q Greater lt))
+
+same_at : (s q : ℕ) → is_at (nat_cmp s) q ≡ true → q ≡ s
+same_at s q h = grind (arith, h)
+
+pub at_is : (s q : ℕ) → is_at (nat_cmp s) q ≡ nat_eq q s
+at_is s q = go (is_at (nat_cmp s) q) (nat_eq q s) refl refl
+  where
+    go : (a b : Bool) → is_at (nat_cmp s) q ≡ a → nat_eq q s ≡ b → a ≡ b
+    go true true e f = refl
+    go false false e f = refl
+    go true false e f = absurd (true≢false (sym (nat_self s) ∙ ap (λ n. nat_eq n s) (sym (same_at s q e)) ∙ f))
+    go false true e f = absurd (true≢false (sym (at_same s q ((Decides-eqb q s).0 f)) ∙ e))
 
 pub rising : (low : ℕ) (es : List (ℕ × UndoRecord)) → AreBySerial low es → Rising low (values_of es)
 rising low [] h = tt
@@ -66,9 +80,6 @@ pub record Stands (es : List (ℕ × UndoRecord)) (s : ℕ) (k : UndoRecord) : T
   pub i : ℕ
   pub at : slice_get (values_of es) i ≡ Some k
   pub serial_is : k.entry.serial ≡ s
-
-same_at : (s q : ℕ) → is_at (nat_cmp s) q ≡ true → q ≡ s
-same_at s q h = grind (arith, h)
 
 pub stands : (low : ℕ) (es : List (ℕ × UndoRecord)) (s : ℕ) (k : UndoRecord) → AreBySerial low es
     → lookup (is_at (nat_cmp s)) es ≡ Some k → Stands es s k

@@ -1,7 +1,7 @@
 -- Records by serial with their touch lists: with one more, without one, and what a search in them finds.
 use Rattle.std.proofs.Common.{◌≡◌, refl, sym, ◌∙◌, ap, subst, Bool, true, false, ℕ, ◌<◌}
 use Rattle.std.proofs.Common.{None, Some, List, [], ◌∷◌, ◌++◌, IfSome, cond, nat_eq, ◌&&◌}
-use Rattle.std.specs.Prelude.{slice_get, remove, IsSome}
+use Rattle.std.specs.Prelude.{slice_get, remove, is_some}
 use Rattle.std.specs.Ordering.{nat_cmp}
 use Rattle.std.specs.BTreeMap.{is_at}
 use Rattle.std.specs.Map.{lookup, remove_entry, values_of}
@@ -14,17 +14,17 @@ use Rattle.om_undo_history.specs.declared.reply.UndoReply.TheVariants.{Undone}
 use Rattle.om_undo_history.specs.declared.records.UndoRecord.{UndoRecord}
 use Rattle.om_undo_touches.specs.declared.own.OwnEntries.{OwnEntries}
 use Rattle.om_undo_touches.specs.declared.touches.TouchLists.{TouchLists}
-use Rattle.om_undo_history.specs.Records.{conflict_or, kept_reply, AreBelow}
+use Rattle.om_undo_history.specs.Records.{conflict_or, kept_reply, record_with, AreBelow, Refuses}
 use Rattle.om_undo_touches.specs.Touches.{names as names_it, has_touch, meets, AreSame, AreWith}
 use Rattle.om_foot.specs.Firsts.{IsFirst}
 use Rattle.om_undo_history.specs.Touches.{touched, AreBySerial, AreListsOf}
 use Rattle.om_undo_touches.specs.Touches.{AreOnly, AreWithout, is_own, SameOwn, WithOwn, WithoutOwn}
-use Rattle.om_undo_history.specs.Touches.{AreOwnOf, IsIndexed}
+use Rattle.om_undo_history.specs.Touches.{AreOwnOf, ConflictsAt, IsIndexed}
 use Rattle.om_undo_history.proofs.Touched.{touched-at, touched-below, touched-remove}
-use Rattle.om_undo_history.proofs.BySerial.{rising, IsFound, is_found, Stands, stands, values-push, by_serial-push}
+use Rattle.om_undo_history.proofs.BySerial.{at_is, rising, IsFound, is_found, Stands, stands, values-push, by_serial-push}
 use Rattle.om_undo_history.proofs.Members.{lists-push}
 use Rattle.om_undo_history.proofs.OwnEntries.{own-push, own-remove}
-use Rattle.om_undo_history.proofs.Replies.{footprint_of, found_behind, reply_none, reply_some}
+use Rattle.om_undo_history.proofs.Replies.{footprint_of, found_behind, met_is, reply_none, reply_some}
 
 pub no_records : (es : List (ℕ × UndoRecord)) (lists : TouchLists) (own : OwnEntries) → es ≡ []
     → ((o : Obj) (m : Mode) (s : ℕ) → has_touch lists o m s ≡ false)
@@ -99,16 +99,29 @@ pub left_by : (es : List (ℕ × UndoRecord)) (i : ℕ) (k : UndoRecord) (serial
 left_by es i k serial h at is = subst (λ n. values_of (remove_entry (is_at (nat_cmp n)) es) ≡ remove (values_of es) i)
     is (is_found 0 es i k h at).left
 
--- a record stands behind each serial that a search finds
-pub is_kept : (es : List (ℕ × UndoRecord)) (lists : TouchLists) (footprint : List Access) (above s : ℕ)
-    → AreBySerial 0 es → AreListsOf footprint_of (values_of es) lists
-    → IsFirst (meets (has_touch lists) footprint) above (Some s) → IsSome (lookup (is_at (nat_cmp s)) es)
-is_kept es lists footprint above s h are first =
-    let who = found_behind (values_of es) lists footprint s are first.1 in
-    subst IsSome (sym (found_by es who.who.i who.who.made s h who.who.at who.who.serial_is)) refl
-
 some_same : (a b : UndoRecord) → Some a ≡ Some b → a ≡ b
 some_same a b h = cc
+
+-- a record has each serial that a search finds, and conflicts with the footprint
+pub conflicts_there : (es : List (ℕ × UndoRecord)) (lists : TouchLists) (undone : UndoRecord) (above s : ℕ)
+    → AreBySerial 0 es → AreListsOf footprint_of (values_of es) lists
+    → IsFirst (meets (has_touch lists) undone.footprint) above (Some s) → ConflictsAt s es undone
+conflicts_there es lists undone above s h are first =
+    let who = found_behind (values_of es) lists undone.footprint s are first.1 in
+    let made : UndoRecord = who.who.made in (
+      made,
+      found_by es who.who.i made s h who.who.at who.who.serial_is,
+      sym (met_is (values_of es) lists undone.footprint who.who.i made (rising 0 es h) are who.who.at)
+          ∙ ap (meets (has_touch lists) undone.footprint) who.who.serial_is ∙ first.1,
+    )
+
+-- so that record is not missing
+pub there_is : (es : List (ℕ × UndoRecord)) (s : ℕ) (earlier : UndoRecord) → ConflictsAt s es earlier
+    → lookup (is_at (nat_cmp s)) es ≡ None → ⊥
+there_is es s earlier h missing = never (sym h.1 ∙ missing)
+  where
+    never : {x : UndoRecord} → Some x ≡ None → ⊥
+    never e = cc
 
 pub reply_free : (es : List (ℕ × UndoRecord)) (lists : TouchLists) (i serial : ℕ) (k undone : UndoRecord)
     → AreBySerial 0 es → AreListsOf footprint_of (values_of es) lists → slice_get (values_of es) i ≡ Some k
@@ -128,8 +141,7 @@ pub reply_refused : (es : List (ℕ × UndoRecord)) (lists : TouchLists) (i seri
     → AreBySerial 0 es → AreListsOf footprint_of (values_of es) lists → slice_get (values_of es) i ≡ Some k
     → k.entry.serial ≡ serial → lookup (is_at (nat_cmp serial)) es ≡ Some undone
     → IsFirst (meets (has_touch lists) undone.footprint) serial (Some s)
-    → IfSome (lookup (is_at (nat_cmp s)) es) (λ made. reply ≡ conflict_or made.entry
-    (conflict_of undone.footprint made.footprint) (Undone serial undone.entry.line))
+    → IfSome (lookup (is_at (nat_cmp s)) es) (Refuses undone reply)
     → reply ≡ kept_reply (values_of es) i
 reply_refused es lists i serial s k undone reply h are at is there first names =
     let same : k ≡ undone = some_same k undone (sym (found_by es i k serial h at is) ∙ there) in
@@ -139,10 +151,11 @@ reply_refused es lists i serial s k undone reply h are at is there first names =
     subst (λ n. IsFirst (meets (has_touch lists) k.footprint) k.entry.serial (Some n)) (sym who.who.serial_is)
     (subst (λ n. IsFirst (meets (has_touch lists) k.footprint) n (Some s)) (sym is)
     (subst (λ (x : UndoRecord). IsFirst (meets (has_touch lists) x.footprint) serial (Some s)) (sym same) first)) in
+    let refuses : Refuses undone reply made =
+    subst (λ o. IfSome o (Refuses undone reply)) (found_by es who.who.i made s h who.who.at who.who.serial_is) names in
     let named : reply ≡ conflict_or made.entry (conflict_of undone.footprint made.footprint)
     (Undone serial undone.entry.line) =
-    subst (λ o. IfSome o (λ x. reply ≡ conflict_or x.entry (conflict_of undone.footprint x.footprint)
-    (Undone serial undone.entry.line))) (found_by es who.who.i made s h who.who.at who.who.serial_is) names in
+    refuses.2 ∙ ap (λ o. conflict_or made.entry o (Undone serial undone.entry.line)) (sym refuses.1) in
     named
     ∙ (λ j. conflict_or made.entry (conflict_of (sym same j).footprint made.footprint)
     (Undone (sym is j) (sym same j).entry.line))
@@ -176,3 +189,14 @@ only_of es serial k lists own h there o m is =
     let place : Stands es serial k = stands 0 es serial k h.by_serial there in
     sym (touched-at footprint_of 0 (values_of es) place.i k o m (rising 0 es h.by_serial) place.at)
     ∙ sym (h.touches o m k.entry.serial) ∙ is
+
+-- the look-up of a serial finds the record with it
+pub look-up : (low : ℕ) (es : List (ℕ × UndoRecord)) (serial : ℕ) → AreBySerial low es
+    → lookup (is_at (nat_cmp serial)) es ≡ record_with serial (values_of es)
+look-up low [] serial h = refl
+look-up low (e ∷ es) serial h =
+    (λ j. cond (same j) (Some e.1) (lookup (is_at (nat_cmp serial)) es))
+    ∙ ap (cond (nat_eq e.1.entry.serial serial) (Some e.1)) (look-up e.0 es serial h.2)
+  where
+    same : is_at (nat_cmp serial) e.0 ≡ nat_eq e.1.entry.serial serial
+    same = at_is serial e.0 ∙ ap (λ n. nat_eq n serial) h.1

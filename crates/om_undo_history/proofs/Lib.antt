@@ -35,4 +35,5 @@ pub mod Indexed
 pub mod Soundness
 pub mod Holding
 pub mod Rolling
+pub mod Standing
 pub mod Leaves

@@ -72,7 +72,7 @@ slice_get-drop (suc i) (x ∷ xs) n =
     let e : suc (i + n) ≡ suc i + n = omega arith in slice_get-drop i xs n ∙ ap (slice_get (x ∷ xs)) e
 
 -- a serial meets a footprint where its record conflicts with it
-met_is : (ks : List UndoRecord) (lists : TouchLists) (footprint : List Access) (j : ℕ) (k : UndoRecord) → Rising 0 ks
+pub met_is : (ks : List UndoRecord) (lists : TouchLists) (footprint : List Access) (j : ℕ) (k : UndoRecord) → Rising 0 ks
     → AreListsOf footprint_of ks lists → slice_get ks j ≡ Some k
     → meets (has_touch lists) footprint k.entry.serial ≡ is_some (conflict_of footprint k.footprint)
 met_is ks lists footprint j k rises are at =

@@ -1,6 +1,7 @@
--- When two runs are the same but for their order. Two steps that can each be made at a state and don't conflict make a
--- diamond. Neighbours of a run that don't conflict can be exchanged in it. Runs that differ by such exchanges are
--- equivalent (Mazurkiewicz 1977; Danos and Krivine 2004), and end at the same state.
+-- When two runs of steps forwards are the same but for their order: no undo and no roll is among their steps. Two steps
+-- that can each be made at a state and don't conflict make a diamond. Neighbours of a run that don't conflict can be
+-- exchanged in it. Runs that differ by such exchanges are equivalent (Mazurkiewicz 1977; of Danos and Krivine 2004 the
+-- part without undos), and end at the same state.
 use Rattle.std.specs.Prelude.{◌≡◌, Some, List, [], ◌∷◌, ◌++◌}
 use Rattle.om_state.specs.declared.step.Label.{Label}
 use Rattle.om_state.specs.State.{State}

@@ -18,3 +18,4 @@ pub mod Touches
 pub mod Rows
 pub mod Leaves
 pub mod Entries
+pub mod Standing

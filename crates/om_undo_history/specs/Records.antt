@@ -1,5 +1,5 @@
 -- Undo records against the replay of their entries.
-use Rattle.std.specs.Prelude.{◌≡◌, ◌≢◌, Bool, true, false, Option, None, Some, List, [], ◌∷◌, map, All, ℕ, ◌+◌, ◌<◌}
+use Rattle.std.specs.Prelude.{◌≡◌, ◌≢◌, Bool, true, false, cond, nat_eq, Option, None, Some, List, [], ◌∷◌, map, All, ℕ, ◌+◌, ◌<◌}
 use Rattle.std.specs.Prelude.{drop, reverse, slice_get, remove}
 use Rattle.std.specs.List.{AllByRecursion}
 use Rattle.om_foot.specs.declared.object.Obj.{Obj}
@@ -80,11 +80,11 @@ reply_before (Some k) later = first_kept_conflict k.footprint later (Undone k.en
 abbrev pub kept_reply : List UndoRecord → ℕ → UndoReply
 kept_reply ks i = reply_before (slice_get ks i) (drop (i + 1) ks)
 
--- what an undo replies where one record alone was made after the undone one: the conflict of the two, if there is
--- one, or else that the step is undone
-abbrev pub RepliesAgainst : UndoRecord → ℕ → UndoReply → UndoRecord → Type 0
-RepliesAgainst undone serial reply made = reply ≡ conflict_or made.entry (conflict_of undone.footprint made.footprint)
-    (Undone serial undone.entry.line)
+-- a reply refuses an undo for another record: the two conflict, and it names that one and the first object at which
+-- they do
+abbrev pub Refuses : UndoRecord → UndoReply → UndoRecord → Type 0
+Refuses undone reply made = (q : Obj) × (conflict_of undone.footprint made.footprint ≡ Some q)
+    × (reply ≡ Conflict made.entry.serial made.entry.worker q)
 
 abbrev pub is_undone : UndoReply → Bool
 is_undone (Undone serial line) = true
@@ -107,6 +107,11 @@ pub record LastHasSerial (w : ℕ) (ks : List UndoRecord) (serial : ℕ) : Type 
 -- one of the records has this serial
 abbrev pub HasSerial : ℕ → List UndoRecord → Type 0
 HasSerial serial ks = (i : ℕ) × (k : UndoRecord) × (slice_get ks i ≡ Some k) × (k.entry.serial ≡ serial)
+
+-- the record with this serial, where one has it
+abbrev pub record_with : ℕ → List UndoRecord → Option UndoRecord
+record_with serial [] = None
+record_with serial (k ∷ ks) = cond (nat_eq k.entry.serial serial) (Some k) (record_with serial ks)
 
 -- something is so of the record with a serial, and of its index
 abbrev pub OfSerial : ℕ → List UndoRecord → (ℕ → UndoRecord → Type 0) → Type 0

@@ -1,5 +1,5 @@
 -- The touch lists of a history, and its records by serial.
-use Rattle.std.specs.Prelude.{◌≡◌, Bool, true, false, cond, nat_eq, ◌&&◌, ℕ, ◌<◌, List, [], ◌∷◌, Option}
+use Rattle.std.specs.Prelude.{◌≡◌, Bool, true, false, cond, nat_eq, ◌&&◌, is_some, ℕ, ◌<◌, List, [], ◌∷◌, Option, Some}
 use Rattle.std.specs.Map.{values_of, lookup}
 use Rattle.std.specs.Ordering.{nat_cmp}
 use Rattle.std.specs.BTreeMap.{is_at}
@@ -8,6 +8,7 @@ use Rattle.om_foot.specs.declared.object.Obj.TheVariants as obj
 use Rattle.om_foot.specs.declared.footprint.Mode.{Mode}
 use Rattle.om_foot.specs.declared.footprint.Mode.TheVariants.{Write}
 use Rattle.om_foot.specs.declared.footprint.Access.{Access}
+use Rattle.om_foot.specs.Footprint.{conflict_of}
 use Rattle.om_undo_touches.specs.declared.own.OwnEntries.{OwnEntries}
 use Rattle.om_undo_touches.specs.declared.touches.TouchLists.{TouchLists}
 use Rattle.om_undo_touches.specs.Touches.{names, has_touch, is_own, AreWith, WithOwn}
@@ -57,6 +58,11 @@ TellsMember serial lists k told =
 -- the record with a serial
 abbrev pub record_at : ℕ → List (ℕ × UndoRecord) → Option UndoRecord
 record_at serial es = lookup (is_at (nat_cmp serial)) es
+
+-- the record with a serial conflicts with an earlier one
+abbrev pub ConflictsAt : ℕ → List (ℕ × UndoRecord) → UndoRecord → Type 0
+ConflictsAt serial es earlier = (made : UndoRecord) × (record_at serial es ≡ Some made)
+    × (is_some (conflict_of earlier.footprint made.footprint) ≡ true)
 
 -- records by serial, which rise
 abbrev pub AreBySerial : ℕ → List (ℕ × UndoRecord) → Type 0

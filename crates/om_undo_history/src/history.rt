@@ -1,6 +1,7 @@
 //! The history of a run, with the store that its entries lead to.
 
 ghost use Rattle.std.specs.Prelude.{◌≡◌, ◌<◌, ◌^◌, [], IfOk, OnOk, OnErr, IsNone, IfSome, ◌↔◌};
+ghost use Rattle.std.specs.Option.{option_copied};
 ghost use Rattle.om_state.specs.Edits.{changed};
 ghost use Rattle.om_state.specs.Rules.{Rules};
 ghost use Rattle.om_memory.specs.Faults.{fault_in};
@@ -11,6 +12,7 @@ ghost use Rattle.om_undo_history.specs.Commands.{undone_by};
 ghost use Rattle.om_undo_history.specs.Choices.{label_by, choice_of};
 ghost use Rattle.om_undo_history.specs.Effects.{control_of};
 ghost use Rattle.om_undo_history.specs.Records.{LastHasSerial};
+ghost use Rattle.om_undo_history.specs.Standing.{accesses_in, footprint_with};
 ghost use Rattle.om_undo_history.specs.Pasts.{past_in, history_in, IsHeld, IsHeldFrom, IsReplay, AreNumbered, Replies, IsPlannedChange, HasRoomFor, RepliesToChange, RepliesToWorker, Becomes, TakesChange, TakesOut, TakesItsCone, Stays, StaysIfNone, HasNoEntry, AreRolled};
 
 use crate::kept::SmallEntry;
@@ -22,6 +24,7 @@ use om_foot::Name;
 use om_memory::{Control, Memory, fault_after};
 use om_seq::{AllocResult, Seq};
 use om_state::{Change, Choice, Edit, Entry, Label};
+use om_undo_touches::Accesses;
 use std::alloc::Global;
 
 /// The history of a run: its entries, each with a small record of what takes it back, and the store
@@ -90,6 +93,19 @@ impl History {
         self.records.entries(alloc)
     }
 
+    /// What the step of the entry with a serial touches at its place in the replay, its worker's control
+    /// first; `None` where no entry has that serial. It is what the entry's record keeps: nothing is made
+    /// again, and it takes no memory.
+    pub fn footprint(&self, serial: u64) -> Option<&Accesses>
+        ensures { Replies (λ r h. footprint_with r h serial) self.now
+            (accesses_in (option_copied result)) }
+    {
+        match self.records.get(serial) {
+            Some(made) => Some(made.footprint()),
+            None => None,
+        }
+    }
+
     // Undoes a worker's last entry, which has this serial, by the whole reply to that. A reply may hold an
     // object, which is large, so this stands apart: it is needed where a later entry conflicts.
     #[cold]
@@ -155,7 +171,7 @@ impl History {
         ensures after { OnOk result (TakesChange label.now change self.old self.new) }
         ensures unchanged_on_error { OnErr result (Stays self.old self.new) }
     {
-        match start_of(alloc, &label.choice) {
+        match kept_choice(alloc, &label.choice) {
             Ok(start) => self.take_by(alloc, label.worker, start, change),
             Err(error) => {
                 drop(change);
@@ -244,8 +260,9 @@ impl History {
     }
 }
 
-/// The name of the task that a choice starts, if it does. Its only error is out of memory.
-pub fn start_of(alloc: Global, choice: &Choice) -> AllocResult<Option<Box<Name>>>
+/// A choice as a planned step and an undo record of the history keep it: the name of the task that it
+/// starts, if it does. Its only error is out of memory.
+pub fn kept_choice(alloc: Global, choice: &Choice) -> AllocResult<Option<Box<Name>>>
     ensures { IfOk result (λ start. choice_of start ≡ choice.now) }
 {
     let Choice::Start(name) = choice else {

@@ -20,8 +20,10 @@ pub fn commutation()
     ensures { Commutation }
 {}
 
-/// Runs that differ by exchanges of neighbours that don't conflict end at the same state: they are causally
-/// equivalent (Danos and Krivine 2004; traces, Mazurkiewicz 1977). Two steps that can each be made at a state
+/// Runs of steps alone, with no undo and no roll among them, that differ by exchanges of neighbours that
+/// don't conflict end at the same state: they are one trace (Mazurkiewicz 1977). Of causal equivalence
+/// (Danos and Krivine 2004) this is what speaks of steps forwards: it also lets a step and its undo fall
+/// out, of which `step_then_undo` speaks. Two steps that can each be made at a state
 /// and don't conflict can be made in either order. A step stays the same after one with which it doesn't
 /// conflict, also where it is blocked or its worker has ended.
 pub fn equivalence()

@@ -1,13 +1,13 @@
 //! Undo records: the history's entries, each with its footprint and what takes it back.
 
-ghost use Rattle.std.specs.Prelude.{◌≡◌, ◌≢◌, ◌<◌, ◌∷◌, ◌++◌, [], IfOk, OnOk, OnErr, IfErr, IsSome, IfSome, IfNone, All, false};
+ghost use Rattle.std.specs.Prelude.{◌≡◌, ◌≢◌, ◌<◌, ◌∷◌, ◌++◌, [], None, Some, IfOk, OnOk, OnErr, IfErr, IfSome, IfNone, All, false};
 ghost use Rattle.std.specs.Map.{values_of};
 ghost use Rattle.om_foot.specs.declared.object.Obj.{Obj};
 ghost use Rattle.om_foot.specs.declared.footprint.Mode.{Mode};
 ghost use Rattle.om_undo_touches.specs.Touches.{has_touch, meets, AreOnly, AreSame, AreWithout, SameOwn, WithoutOwn};
 ghost use Rattle.om_foot.specs.Firsts.{IsFirst};
-ghost use Rattle.om_undo_history.specs.Records.{entries_of, cone_in, roll_in, LastHasSerial, HasSerial, AreBelow, IsOfSerial, LosesSerial, RepliesToUndo, CanUndo, RepliesAgainst};
-ghost use Rattle.om_undo_history.specs.Touches.{AreBySerial, AreListsOf, IsIndexed, NotesTouches, NotesOwn, TellsMeets, TellsMember, record_at};
+ghost use Rattle.om_undo_history.specs.Records.{entries_of, cone_in, roll_in, LastHasSerial, HasSerial, AreBelow, IsOfSerial, LosesSerial, RepliesToUndo, CanUndo, Refuses, record_with};
+ghost use Rattle.om_undo_history.specs.Touches.{AreBySerial, AreListsOf, IsIndexed, NotesTouches, NotesOwn, TellsMeets, TellsMember, ConflictsAt, record_at};
 
 use crate::by_serial::BySerial;
 use crate::kept::Kept;
@@ -129,13 +129,13 @@ fn leave(kept: &mut BySerial, lists: &mut TouchLists, own: &mut OwnEntries, seri
     }
 }
 
-// The reply that names the record with the serial `first` where it conflicts with the one of another
-// serial, else that this one is undone.
-fn refusal_by(kept: &BySerial, undone: &Kept, serial: u64, first: u64) -> UndoReply
-    requires { IsSome (record_at first kept.now) }
-    ensures { IfSome (record_at first kept.now) (RepliesAgainst undone.now serial result) }
+// The reply that names the record with a serial, which conflicts with the undone one, and the first object
+// at which it does.
+fn refusal_by(kept: &BySerial, undone: &Kept, serial: u64) -> UndoReply
+    requires { ConflictsAt serial kept.now undone.now }
+    ensures { IfSome (record_at serial kept.now) (Refuses undone.now result) }
 {
-    let Some(made) = kept.get(first) else {
+    let Some(made) = kept.get(serial) else {
         unreachable!()
     };
     match conflict(undone.footprint(), made.footprint()) {
@@ -144,10 +144,7 @@ fn refusal_by(kept: &BySerial, undone: &Kept, serial: u64, first: u64) -> UndoRe
             worker: made.worker(),
             object,
         },
-        None => UndoReply::Undone {
-            serial,
-            line: undone.line(),
-        },
+        None => unreachable!(),
     }
 }
 
@@ -173,7 +170,7 @@ fn reply_at(kept: &BySerial, lists: &TouchLists, serial: u64) -> UndoReply
 {
     match kept.get(serial) {
         Some(undone) => match first_conflict(kept, lists, undone, serial) {
-            Some(first) => refusal_by(kept, undone, serial, first),
+            Some(first) => refusal_by(kept, undone, first),
             None => UndoReply::Undone {
                 serial,
                 line: undone.line(),
@@ -234,6 +231,14 @@ impl Records {
             lists: TouchLists::new(alloc),
             own: OwnEntries::new(alloc),
         }
+    }
+
+    /// The record with a serial, where one has it. It takes no memory.
+    pub(crate) fn get(&self, serial: u64) -> Option<&Kept>
+        ensures found { IfSome result (λ k. record_with serial self.now ≡ Some k.now) }
+        ensures none { IfNone result (record_with serial self.now ≡ None) }
+    {
+        self.kept.get(serial)
     }
 
     /// The serial of a worker's last entry; `None` where it has none. It takes no memory.

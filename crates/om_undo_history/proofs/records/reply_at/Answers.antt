@@ -1,10 +1,10 @@
 use Rattle.std.proofs.Common.{◌∙◌, ap}
 use Rattle.om_undo_history.specs.declared.reply.UndoReply.TheVariants.{Undone}
-use Rattle.om_undo_history.proofs.Indexed.{is_kept, reply_free, reply_refused, not_missing}
+use Rattle.om_undo_history.proofs.Indexed.{conflicts_there, reply_free, reply_refused, not_missing}
 use Rattle.om_undo_history.proofs.records.reply_at.Goals as goal
 
 pub refusal_by-requires : goal.refusal_by-requires
-refusal_by-requires c = is_kept c.args.kept.now c.args.lists.now c.in-Some.undone.now.footprint c.args.serial
+refusal_by-requires c = conflicts_there c.args.kept.now c.args.lists.now c.in-Some.undone.now c.args.serial
     c.in-Some-first_conflict.first c.requires.by_serial c.requires.lists c.in-Some-first_conflict.ensures
 
 pub returns-in-Some-first_conflict : goal.returns-in-Some-first_conflict
