@@ -37,6 +37,8 @@ returns c =
       made.lists.items,
       made_body tree b made _ _ _ c.requires.slots fits c.in_ok-given.ensures
           (c.in_ok-names.ensures
+          ∙ ap (λ name. names_with name c.args.seen.now.variables.now b.outer made.scopes.items)
+          c.as_slice-function.ensures
           ∙ ap (λ variables. names_with b.function.name variables b.outer made.scopes.items) c.requires.seen.variables),
       fits.2,
       c.in_ok-put_body.ensures.bodies,
