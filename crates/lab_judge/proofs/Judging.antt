@@ -1,9 +1,9 @@
 -- Where nothing is bad.
 use Rattle.std.proofs.Common.{◌≡◌, ℕ, false, List, Option, None, Some}
 use Rattle.om_code.specs.declared.frame.Fault.{Fault}
-use Rattle.lab_schedules.specs.declared.judge.Badness.{Badness}
-use Rattle.lab_schedules.specs.declared.judge.Badness.TheVariants as badness
-use Rattle.lab_schedules.specs.Bad.{IsBad, IsFaulted, NoneFaulted, NoneMoves, control_of}
+use Rattle.lab_judge.specs.declared.judge.Badness.{Badness}
+use Rattle.lab_judge.specs.declared.judge.Badness.TheVariants as badness
+use Rattle.lab_judge.specs.Bad.{IsBad, IsFaulted, NoneFaulted, NoneMoves, control_of}
 use Rattle.om_undo.specs.Machines.{MachineView}
 use Rattle.om_shell_debugger.specs.Runs.{has_ended}
 

@@ -7,11 +7,13 @@ use Rattle.om_state.specs.declared.control.Control.TheVariants as control
 use Rattle.om_state.specs.Values.{control_in, bytes_in}
 use Rattle.om_code.specs.declared.frame.Fault.{Fault}
 use Rattle.om_foot.specs.declared.object.Obj.TheVariants as object
-use Rattle.lab_schedules.specs.declared.judge.Badness.{Badness}
-use Rattle.lab_schedules.specs.declared.judge.Badness.TheVariants as badness
-use Rattle.lab_schedules.specs.declared.outcome.Alone.{Alone}
-use Rattle.lab_schedules.specs.declared.outcome.End.{End}
-use Rattle.lab_schedules.specs.Texts.{text_in}
+use Rattle.lab_judge.specs.declared.judge.Badness.{Badness}
+use Rattle.lab_judge.specs.declared.judge.Badness.TheVariants as badness
+use Rattle.lab_judge.specs.declared.judge.Standard.{Standard}
+use Rattle.lab_judge.specs.declared.judge.Standard.TheVariants as standard
+use Rattle.lab_judge.specs.declared.outcome.Alone.{Alone}
+use Rattle.lab_judge.specs.declared.outcome.End.{End}
+use Rattle.lab_judge.specs.Texts.{text_in}
 use Rattle.om_undo.specs.Machines.{MachineView, state_in}
 use Rattle.om_shell_debugger.specs.Looks.{line_at}
 use Rattle.om_shell_debugger.specs.Runs.{has_ended, move_of}
@@ -82,6 +84,11 @@ EndsWith m wanted None = NothingIsBad m wanted
 abbrev pub wanted_by : Option (List ℕ) → MachineView → Option (List ℕ)
 wanted_by (Some text) m = Some text
 wanted_by None m = cond (has_ended (control_of m 0)) (Some (output_of m)) None
+
+-- where that is from: it was told, or it is what was printed there
+abbrev pub standard_by : Option (List ℕ) → Standard
+standard_by (Some text) = standard.Told
+standard_by None = standard.Run
 
 -- what a program has to print, where that is known; what is expected is lent
 abbrev pub due_at : Option (Bor (List ℕ)) → MachineView → Option (List ℕ)

@@ -7,8 +7,8 @@ ghost use Rattle.om_book_journal.specs.Runs.{is_step_made};
 ghost use Rattle.om_book_journal.specs.declared.reply.Reply.TheVariants as replies;
 ghost use Rattle.om_undo.specs.ReadyNames.{ready_names};
 ghost use Rattle.om_shell_debugger.specs.Runs.{can_step, start_among, move_of, has_ended};
-ghost use Rattle.lab_schedules.specs.Bad.{IsBad, IsJudged, NoneFaulted, NoneMoves, control_of, output_of, due_at, wanted_by, fault_of};
-ghost use Rattle.lab_schedules.specs.Texts.{text_in};
+ghost use Rattle.lab_judge.specs.Bad.{IsBad, IsJudged, NoneFaulted, NoneMoves, control_of, output_of, due_at, standard_by, wanted_by, fault_of};
+ghost use Rattle.lab_judge.specs.Texts.{text_in};
 
 use om_code::frame::Fault;
 use om_foot::{Name, Obj};
@@ -30,11 +30,23 @@ pub enum Badness {
     Stuck,
 }
 
+/// Where it is from what a program has to print.
+#[derive(Clone, Copy)]
+pub enum Standard {
+    /// It was told.
+    Told,
+    /// It is what `run` alone prints, if the program ends there.
+    Run,
+    /// It is what the schedule of this seed prints: the first that came to an end, where `run` came to none.
+    Seed(u64),
+}
+
 /// What a program has to print.
 #[derive(Drop)]
 pub struct Wanted {
     /// The bytes, where they are known. Where not, any output will do.
     pub text: Option<Vec<u8>>,
+    pub standard: Standard,
 }
 
 impl Wanted {
@@ -44,17 +56,35 @@ impl Wanted {
         machine: &Machine,
         expected: Option<&[u8]>,
     ) -> AllocResult<Wanted>
-        ensures { IfOk result (λ wanted. text_in wanted.text ≡ due_at expected.entry machine.now) }
+        ensures text { IfOk result
+            (λ wanted. text_in wanted.text ≡ due_at expected.entry machine.now) }
+        ensures standard { IfOk result
+            (λ wanted. wanted.standard ≡ standard_by (option_copied expected.entry)) }
     {
-        let text = match expected {
-            Some(text) => Some(Vec::from_slice(alloc, text)?),
-            None => output_at_end(alloc, machine)?,
-        };
-        Ok(Wanted { text })
+        match expected {
+            Some(text) => Ok(Wanted {
+                text: Some(Vec::from_slice(alloc, text)?),
+                standard: Standard::Told,
+            }),
+            None => Ok(Wanted {
+                text: output_at_end(alloc, machine)?,
+                standard: Standard::Run,
+            }),
+        }
     }
 
-    /// A copy of the bytes, where they are known. Its only error is out of memory.
-    pub fn copy(&self) -> AllocResult<Option<Vec<u8>>>
+    /// A copy. Its only error is out of memory.
+    pub fn copy(&self) -> AllocResult<Wanted>
+        ensures text { IfOk result (λ wanted. text_in wanted.text ≡ text_in self.now.text) }
+        ensures standard { IfOk result (λ wanted. wanted.standard ≡ self.now.standard) }
+    {
+        let standard = self.standard;
+        let text = self.copied_text()?;
+        Ok(Wanted { text, standard })
+    }
+
+    // A copy of the bytes, where they are known.
+    fn copied_text(&self) -> AllocResult<Option<Vec<u8>>>
         ensures { IfOk result (λ text. text_in text ≡ text_in self.now.text) }
     {
         let Some(text) = &self.text else {
@@ -65,7 +95,7 @@ impl Wanted {
 
     /// What is bad about where a machine stands, if something is: a fault, else the output of a program that
     /// ended, else that it is stuck. Its only error is out of memory.
-    pub(crate) fn judge(&self, alloc: Global, machine: &Machine) -> AllocResult<Option<Badness>>
+    pub fn judge(&self, alloc: Global, machine: &Machine) -> AllocResult<Option<Badness>>
         ensures { IfOk result (λ bad. IsJudged machine.now (text_in self.now.text) bad) }
     {
         if let Some(bad) = first_fault(machine) {
@@ -126,8 +156,8 @@ fn fault_in(control: Option<&Control>) -> Option<Fault>
     Some(*fault)
 }
 
-// Whether a control is that of a worker whose program has ended.
-fn has_ended(control: Option<&Control>) -> bool
+/// Whether a control is that of a worker whose program has ended.
+pub fn has_ended(control: Option<&Control>) -> bool
     ensures { result ≡ has_ended (plain_or_idle (option_copied control.entry)) }
 {
     match control {
@@ -148,8 +178,8 @@ pub(crate) fn output(alloc: Global, machine: &Machine) -> AllocResult<Vec<u8>>
     bytes
 }
 
-// What the program printed, where the initial task has ended.
-fn output_at_end(alloc: Global, machine: &Machine) -> AllocResult<Option<Vec<u8>>>
+/// What the program printed, where the initial task has ended. Its only error is out of memory.
+pub(crate) fn output_at_end(alloc: Global, machine: &Machine) -> AllocResult<Option<Vec<u8>>>
     ensures { IfOk result (λ text. text_in text ≡ wanted_by None machine.now) }
 {
     if has_ended(machine.control(0)) {

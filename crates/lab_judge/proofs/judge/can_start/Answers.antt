@@ -1,7 +1,7 @@
 use Rattle.std.proofs.Common.{is_some, sym, ap, ◌∙◌}
 use Rattle.om_shell_debugger.specs.Runs.{start_among}
-use Rattle.lab_schedules.proofs.Moves.{start_behind, start_here, drop_next}
-use Rattle.lab_schedules.proofs.judge.can_start.Goals as goal
+use Rattle.lab_judge.proofs.Moves.{start_behind, start_here, drop_next}
+use Rattle.lab_judge.proofs.judge.can_start.Goals as goal
 
 pub loop-name-preserved : goal.loop-name-preserved
 loop-name-preserved c =

@@ -1,6 +1,6 @@
 use Rattle.std.proofs.Common.{◌≡◌, None, below_more}
-use Rattle.lab_schedules.specs.Bad.{control_of, fault_of}
-use Rattle.lab_schedules.proofs.judge.first_fault.Goals as goal
+use Rattle.lab_judge.specs.Bad.{control_of, fault_of}
+use Rattle.lab_judge.proofs.judge.first_fault.Goals as goal
 
 pub loop-worker-preserved : goal.loop-worker-preserved
 loop-worker-preserved c =

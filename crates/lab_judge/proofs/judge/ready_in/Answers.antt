@@ -1,6 +1,6 @@
 use Rattle.std.proofs.lemmas.Result.{IfOk-weaker}
 use Rattle.om_undo.specs.Machines.{state_in}
-use Rattle.lab_schedules.proofs.judge.ready_in.Goals as goal
+use Rattle.lab_judge.proofs.judge.ready_in.Goals as goal
 
 pub returns : goal.returns
 returns c = IfOk-weaker c.ready.result _ _

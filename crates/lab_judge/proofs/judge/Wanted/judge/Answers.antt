@@ -1,9 +1,9 @@
 use Rattle.std.proofs.Common.{◌≡◌, false}
 use Rattle.om_shell_debugger.specs.Runs.{has_ended}
-use Rattle.lab_schedules.specs.Bad.{control_of}
-use Rattle.lab_schedules.specs.Texts.{text_in}
-use Rattle.lab_schedules.proofs.Judging.{good_before_end}
-use Rattle.lab_schedules.proofs.judge.Wanted.judge.Goals as goal
+use Rattle.lab_judge.specs.Bad.{control_of}
+use Rattle.lab_judge.specs.Texts.{text_in}
+use Rattle.lab_judge.proofs.Judging.{good_before_end}
+use Rattle.lab_judge.proofs.judge.Wanted.judge.Goals as goal
 
 pub returns-in-Some : goal.returns-in-Some
 returns-in-Some c = rw c.in-Some.is at (c.first_fault.ensures.met (text_in c.args.self.now.text))
