@@ -131,7 +131,7 @@ pub(crate) const BYTES: [Row; 11] = [
     (b"~", "no bit operators: `-1 - y` for `~y`"),
     (
         b"0",
-        "a number is `10`, `010` or `0x1F`, with no letter or point behind it",
+        "a number is `10`, `010` or `0x1F`, with no letter or point after it",
     ),
     (
         b"\"",
@@ -151,8 +151,8 @@ pub(crate) const HASH_LINES: [Row; 10] = [
         b"include <stdbool.h>",
         "leave it out; `bool` is `int`, `true` is 1, `false` is 0",
     ),
-    (b"include <stdio.h>", "nothing may stand behind the header"),
-    (b"include <omp.h>", "nothing may stand behind the header"),
+    (b"include <stdio.h>", "nothing may stand after the header"),
+    (b"include <omp.h>", "nothing may stand after the header"),
     (
         b"include <",
         "leave it out; only <stdio.h> and <omp.h> may stand",

@@ -17,7 +17,7 @@ pub(crate) const LIBRARY: [Row; 42] = [
     ),
     (
         b"omp_in_parallel",
-        "`omp_get_num_threads() > 1`, where no inner `parallel` stands round it",
+        "`omp_get_num_threads() > 1`, where no inner `parallel` stands around it",
     ),
     (b"omp_get_wtime", "leave it out, with what it measures"),
     (
@@ -30,7 +30,7 @@ pub(crate) const LIBRARY: [Row; 42] = [
     ),
     (
         b"omp_set_lock",
-        "`#pragma omp critical (NAME)` round what stands up to the unset",
+        "`#pragma omp critical (NAME)` around what stands up to the unset",
     ),
     (b"omp_unset_lock", "leave it out; the `critical` ends there"),
     (
@@ -39,7 +39,7 @@ pub(crate) const LIBRARY: [Row; 42] = [
     ),
     (
         b"omp_set_nest_lock",
-        "`#pragma omp critical (NAME)` round what stands up to the unset",
+        "`#pragma omp critical (NAME)` around what stands up to the unset",
     ),
     (
         b"omp_unset_nest_lock",

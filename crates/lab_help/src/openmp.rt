@@ -6,11 +6,11 @@ use crate::table::Row;
 pub(crate) const WORDS: [Row; 41] = [
     (
         b"depend",
-        "put a `taskwait` before the task that needs the result, or a `taskgroup` round those before",
+        "put a `taskwait` before the task that needs the result, or a `taskgroup` around those before",
     ),
     (
         b"if",
-        "`num_threads(n > 8 ? 4 : 1)` on a `parallel`; of a task an `if` round it, with its statement again behind `else`",
+        "`num_threads(n > 8 ? 4 : 1)` on a `parallel`; of a task an `if` around it, with its statement again after `else`",
     ),
     (
         b"schedule",
@@ -26,7 +26,7 @@ pub(crate) const WORDS: [Row; 41] = [
     ),
     (
         b"ordered",
-        "keep the results in an array, and print them behind the loop",
+        "keep the results in an array, and print them after the loop",
     ),
     (b"cancel", "a variable that the other iterations look at"),
     (b"cancellation", "leave it out"),
@@ -38,12 +38,12 @@ pub(crate) const WORDS: [Row; 41] = [
     (b"teams", "leave it out"),
     (b"distribute", "leave it out"),
     (b"loop", "write `for`"),
-    (b"taskloop", "a loop round a `task`, in a `taskgroup`"),
+    (b"taskloop", "a loop around a `task`, in a `taskgroup`"),
     (b"threadprivate", "an array with an element for each thread"),
     (b"copyin", "write `firstprivate`"),
     (
         b"copyprivate",
-        "store into a shared variable in the `single`, and read it behind",
+        "store into a shared variable in the `single`, and read it after the construct",
     ),
     (b"proc_bind", "leave it out"),
     (b"untied", "leave it out"),
@@ -109,9 +109,9 @@ pub(crate) const CONSTRUCTS: [Row; 7] = [
     ),
     (
         b"continue",
-        "a loop has to stand round it, in the construct",
+        "a loop has to stand around it, in the construct",
     ),
-    (b"return", "set a variable, and return behind the construct"),
+    (b"return", "set a variable, and return after the construct"),
     (b"barrier", IN_ANOTHER),
     (b"for", IN_ANOTHER),
     (b"sections", IN_ANOTHER),
@@ -120,4 +120,4 @@ pub(crate) const CONSTRUCTS: [Row; 7] = [
 
 // Of worksharing and a barrier in a construct that they may not stand in (OpenMP 5.2, 17.1).
 const IN_ANOTHER: &str =
-    "no worksharing, masked, critical or task may stand round it without a parallel between: move it out";
+    "no worksharing, masked, critical or task may stand around it without a parallel between: move it out";
