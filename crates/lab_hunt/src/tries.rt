@@ -77,8 +77,12 @@ impl Tries {
             };
             self.seed = schedule.seed;
             let is_bad = schedule.is_bad;
-            match shown(field, ground, schedule)? {
-                Some(tried) => return Ok(tried),
+            match shown(field, ground, schedule, self.unconfirmed)? {
+                Some(Tried::Bad(found)) => return Ok(Tried::Bad(found)),
+                Some(tried) => {
+                    self.note(is_bad);
+                    return Ok(tried);
+                }
                 None => self.note(is_bad),
             }
         }
@@ -94,10 +98,12 @@ impl Tries {
 }
 
 // What the debugger shows of a schedule, where that is bad, or comes to an end and it is not known what is wanted.
+// `unconfirmed` bad schedules before it were not bad in the debugger.
 fn shown<H: Threads + Wait + Sync>(
     field: &Field<'_, H>,
     ground: &Ground<'_>,
     schedule: Schedule,
+    unconfirmed: u64,
 ) -> Result<Option<Tried>, ShellFault>
     requires at_least_one { 0 < ground.now.workers }
     requires at_most_32 { ground.now.workers ≤ 32 }
@@ -122,7 +128,7 @@ fn shown<H: Threads + Wait + Sync>(
         printed: text,
         end,
         wanted,
-        unconfirmed: 0,
+        unconfirmed,
     })))
 }
 
