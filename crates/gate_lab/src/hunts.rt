@@ -1,7 +1,7 @@
 //! Hunts, and what they tell of how far they are.
 
 use crate::sections::{Given, cut};
-use crate::subcommands::{WORKERS, Written, number_in, refused, written};
+use crate::subcommands::{WORKERS, Written, number_in, output_of, refused};
 use lab_hunt::{Aims, Hunted, Progress, hunt, push_report};
 use lab_script::ScriptFault;
 use lab_text::status::{BAD, DONE};
@@ -114,11 +114,11 @@ fn told_of(
         Hunted::Nothing { printed, .. } => {
             push_report(&mut text, hunted)?;
             text.extend_from_slice(printed.as_slice())?;
-            Ok(written(alloc, DONE, text))
+            Ok(output_of(alloc, DONE, text))
         }
         Hunted::Found(_) => {
             push_report(&mut text, hunted)?;
-            Ok(written(alloc, BAD, text))
+            Ok(output_of(alloc, BAD, text))
         }
     }
 }

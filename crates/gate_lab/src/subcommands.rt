@@ -45,7 +45,7 @@ pub(crate) fn written_by<R: Threads + Wait + Sync>(
         "cone" => coned(rt, alloc, number_in(numbers), given),
         "notes" => noted(alloc, given),
         "draw" => drawn(rt, alloc, given),
-        _ => Ok(written(alloc, WORDS, Vec::new(alloc))),
+        _ => Ok(output_of(alloc, WORDS, Vec::new(alloc))),
     }
 }
 
@@ -55,7 +55,7 @@ pub(crate) fn number_in(word: &str) -> u64 {
 }
 
 /// What is written to standard output alone.
-pub(crate) fn written(alloc: Global, status: u8, text: Vec<u8>) -> Written {
+pub(crate) fn output_of(alloc: Global, status: u8, text: Vec<u8>) -> Written {
     Written {
         status,
         text,
@@ -85,7 +85,7 @@ fn options(given: Given<'_>) -> Options<'_> {
 fn checked(alloc: Global, given: Given<'_>) -> AllocResult<Written> {
     let Report { text, status } = report(alloc, FILE, given.source, WORKERS)?;
     let status = if status == 0 { DONE } else { BAD };
-    Ok(written(alloc, status, text))
+    Ok(output_of(alloc, status, text))
 }
 
 // The steps that the session leaves.
@@ -128,7 +128,7 @@ fn noted(alloc: Global, given: Given<'_>) -> Result<Written, ScriptFault> {
     let mut reader = given.input.unwrap_or(&[]);
     let mut text = Vec::new(alloc);
     if annotate(alloc, given.source, &mut reader, &mut text)? {
-        Ok(written(alloc, DONE, text))
+        Ok(output_of(alloc, DONE, text))
     } else {
         Ok(refused(alloc, given, text)?)
     }
@@ -142,7 +142,7 @@ fn drawn<R: Threads + Wait + Sync>(
 ) -> Result<Written, ScriptFault> {
     let mut reader = given.input.unwrap_or(&[]);
     match page(rt, alloc, &mut reader, options(given))? {
-        Page::Drawn(text) => Ok(written(alloc, DONE, text)),
+        Page::Drawn(text) => Ok(output_of(alloc, DONE, text)),
         Page::Refused(_) => Ok(refused(alloc, given, Vec::new(alloc))?),
     }
 }

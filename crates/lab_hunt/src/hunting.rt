@@ -118,8 +118,8 @@ fn settle<H: Threads + Wait + Sync, P: Progress>(
         wanted: &wanted,
     };
     match tries.next(field, &ground, progress)? {
-        Tried::Bad(found) => Ok(tries.sought(Some(found), None)),
-        Tried::Nothing => Ok(tries.sought(None, None)),
+        Tried::Bad(found) => Ok(tries.ended(Some(found), None)),
+        Tried::Nothing => Ok(tries.ended(None, None)),
         Tried::Ends { seed, output } => {
             let printed = Wanted {
                 text: Some(output),
@@ -152,15 +152,15 @@ fn compare<H: Threads + Wait + Sync, P: Progress>(
     };
     let compared = Some(wanted.standard);
     match tries.next(field, &ground, progress)? {
-        Tried::Bad(found) => Ok(tries.sought(Some(found), compared)),
-        Tried::Nothing => Ok(tries.sought(None, compared)),
+        Tried::Bad(found) => Ok(tries.ended(Some(found), compared)),
+        Tried::Nothing => Ok(tries.ended(None, compared)),
         Tried::Ends { .. } => unreachable!(),
     }
 }
 
 impl Tries {
     // What came of them.
-    fn sought(self, found: Option<Found>, compared: Option<Standard>) -> Sought
+    fn ended(self, found: Option<Found>, compared: Option<Standard>) -> Sought
         ensures { result.found ≡ found }
     {
         Sought {

@@ -51,13 +51,13 @@ fn awaited_by(alloc: Global, machine: &Machine, worker: u8) -> AllocResult<Optio
     requires { worker < machine.now.workers }
 {
     match machine.peek(alloc, worker, Choice::Next)? {
-        StepReply::Blocked(why) => awaited(alloc, machine, worker, why),
+        StepReply::Blocked(why) => awaited_for(alloc, machine, worker, why),
         StepReply::Done { .. } | StepReply::Ended => Ok(None),
     }
 }
 
 // What a worker waits for whose next step is blocked so.
-fn awaited(
+fn awaited_for(
     alloc: Global,
     machine: &Machine,
     worker: u8,
