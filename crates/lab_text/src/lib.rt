@@ -1,4 +1,4 @@
-//! omplab: texts that several subcommands write: a report's head, steps as commands, a note after a line.
+//! omplab: what subcommands share: texts that they write, a session's answers, commands turned down; exit statuses.
 //!
 //! Each of these is its text, to the byte (`specs/Heads`, `Commands`, `Tails`). Which commands of a session were
 //! turned down is said in words alone.
