@@ -1,5 +1,5 @@
 -- A read of one line of several.
-use Rattle.std.proofs.Common.{◌≡◌, ℕ, List, [], ◌++◌, Some, Result, Ok, Err, take, ap, subst, ◌∙◌, append_assoc}
+use Rattle.std.proofs.Common.{◌≡◌, ℕ, List, [], ◌++◌, Some, Result, Ok, Err, take, ap, ◌∙◌, append_assoc}
 use Rattle.std.specs.Io.KnownBytes.{ReadConsumes}
 
 -- what a read takes from a line it takes from that line and later ones

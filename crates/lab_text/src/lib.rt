@@ -7,7 +7,8 @@
 //! - `commands` writes steps as commands of the debugger (`commands_for`).
 //! - `tail` puts a mark and words after a line, or nothing where they would end the line (`noted`).
 //! - `line_by_line` and `answers` are a reader and a writer for a run of the debugger: so each answer is known
-//!   by itself. `turned_down` lists the commands that were answered by H1, H2, `full`, `blocked` or `refused`.
+//!   by itself. `turning_down` lists the commands that were answered by H1, H2, `full`, `blocked` or `refused`
+//!   (`turned_down`).
 //! - `status` has the exit statuses.
 #![tactic(auto)]
 
@@ -17,11 +18,11 @@ mod line_by_line;
 mod report;
 pub mod status;
 mod tail;
-mod turned_down;
+mod turning_down;
 
 pub use answers::Answers;
 pub use commands::commands_for;
 pub use line_by_line::LineByLine;
 pub use report::{Report, accepted_report, push_place, refused_report};
 pub use tail::noted;
-pub use turned_down::{first_line, turned_down};
+pub use turning_down::{first_line, turned_down};
