@@ -5,7 +5,7 @@ use Rattle.om_code.specs.declared.raw.Raw.{Raw}
 use Rattle.om_undo_history.specs.Cones.{transitions}
 use Rattle.om_undo.specs.Machines.{MachineView, rules_for}
 use Rattle.om_book.specs.Books.{BookView}
-use Rattle.lab_graph.specs.declared.sketch.Traced.{Traced}
+use Rattle.lab_graph.specs.declared.traced.Traced.{Traced}
 use Rattle.lab_graph.specs.declared.picture.StepBox.{StepBox}
 use Rattle.lab_graph.specs.declared.picture.Arrow.{Arrow}
 use Rattle.lab_graph.specs.Pictures.{box_of, IsArrow}

@@ -10,7 +10,7 @@ use Rattle.om_shell.specs.declared.shell.Options.{Options}
 use Rattle.om_shell.specs.Files.{ReadsAll}
 use Rattle.om_shell.specs.Ends.{RunsToEnd}
 use Rattle.om_shell.specs.Progress.{moment_of}
-use Rattle.lab_graph.specs.declared.sketch.Traced.{Traced}
+use Rattle.lab_graph.specs.declared.traced.Traced.{Traced}
 use Rattle.lab_graph.specs.declared.picture.Arrow.{Arrow}
 use Rattle.lab_graph.specs.declared.picture.Picture.{Picture}
 use Rattle.lab_draw.specs.declared.scale.Scale.{Scale}

@@ -27,7 +27,7 @@ pub(crate) struct Beside<'a> {
 pub(crate) fn beside_of<'a>(
     alloc: Global,
     book: &Book,
-    steps: &'a [Traced],
+    steps: &'a [Traced<'_>],
     picture: &Picture,
 ) -> AllocResult<Beside<'a>> {
     let story = story_of(alloc, book.journal(), steps)?;

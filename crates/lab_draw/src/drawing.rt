@@ -102,7 +102,7 @@ fn front_of(
     beside: &Beside<'_>,
 ) -> AllocResult<Vec<u8>> {
     let mut text = Vec::new(alloc);
-    push_front(&mut text, source, &picture.boxes, beside.extent)?;
+    push_front(alloc, &mut text, source, &picture.boxes, beside.extent)?;
     push_beside(&mut text, program, beside)?;
     Ok(text)
 }
