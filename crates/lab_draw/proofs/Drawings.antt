@@ -5,7 +5,7 @@ use Rattle.om_code.specs.declared.raw.Raw.{Raw}
 use Rattle.om_undo_history.specs.Cones.{transitions}
 use Rattle.om_undo.specs.Machines.{MachineView, rules_for}
 use Rattle.om_book.specs.Books.{BookView}
-use Rattle.lab_graph.specs.declared.sketch.Traced.{Traced}
+use Rattle.lab_graph.specs.declared.traced.Traced.{Traced}
 use Rattle.lab_graph.specs.declared.picture.StepBox.{StepBox}
 use Rattle.lab_graph.specs.declared.picture.Arrow.{Arrow}
 use Rattle.lab_graph.specs.Pictures.{box_of, IsArrow}
@@ -13,6 +13,7 @@ use Rattle.lab_replay.specs.Traces.{transition_of}
 use Rattle.lab_draw.specs.declared.scale.Scale.{Scale}
 use Rattle.lab_draw.specs.declared.outcome.Page as outcome
 use Rattle.lab_draw.specs.Marks.{boxes_text}
+use Rattle.lab_draw.specs.Places.{first_serial}
 use Rattle.lab_draw.specs.Strokes.{arrows_text}
 use Rattle.lab_draw.specs.Pages.{Leaves, IsDrawing, IsShown, IsPage}
 use Rattle.om_shell.specs.Files.{ReadsAll}
@@ -22,9 +23,10 @@ pub drawing_of : (m seen : MachineView) (program : Raw) (steps ts : List Traced)
     (arrows : List Arrow) (scale : Scale) (front behind bytes : List ℕ) → seen ≡ m → program ≡ seen.program
     → ts ≡ steps → map transition_of steps ≡ transitions (rules_for seen) seen.history.entries
     → boxes ≡ map box_of ts → ((x : Arrow) → Contains arrows x ↔ IsArrow ts x)
+    → scale.first ≡ first_serial boxes
     → bytes ≡ front ++ arrows_text program (codes "arrow") scale arrows ++ boxes_text (codes "step") scale boxes
     ++ behind → IsDrawing m bytes
-drawing_of m seen program steps ts boxes arrows scale front behind bytes same p same_steps traced b exactly text =
+drawing_of m seen program steps ts boxes arrows scale front behind bytes same p same_steps traced b exactly left text =
     let program_is : program ≡ m.program = p ∙ ap (λ (x : MachineView). x.program) same in
     let boxes_are : boxes ≡ map box_of steps = b ∙ ap (λ (l : List Traced). map box_of l) same_steps in
     record {
@@ -35,6 +37,7 @@ drawing_of m seen program steps ts boxes arrows scale front behind bytes same p 
       arrows = arrows;
       exactly = subst (λ (l : List Traced). (x : Arrow) → Contains arrows x ↔ IsArrow l x) same_steps exactly;
       scale = scale;
+      leftmost = left ∙ ap first_serial boxes_are;
       front = front;
       behind = behind;
       text = text

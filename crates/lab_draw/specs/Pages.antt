@@ -10,7 +10,7 @@ use Rattle.om_shell.specs.declared.shell.Options.{Options}
 use Rattle.om_shell.specs.Files.{ReadsAll}
 use Rattle.om_shell.specs.Ends.{RunsToEnd}
 use Rattle.om_shell.specs.Progress.{moment_of}
-use Rattle.lab_graph.specs.declared.sketch.Traced.{Traced}
+use Rattle.lab_graph.specs.declared.traced.Traced.{Traced}
 use Rattle.lab_graph.specs.declared.picture.Arrow.{Arrow}
 use Rattle.lab_graph.specs.declared.picture.Picture.{Picture}
 use Rattle.lab_draw.specs.declared.scale.Scale.{Scale}
@@ -19,6 +19,7 @@ use Rattle.lab_draw.specs.declared.outcome.Page.TheVariants.{Drawn, Refused}
 use Rattle.lab_graph.specs.Pictures.{box_of, IsArrow}
 use Rattle.lab_replay.specs.Traces.{transition_of}
 use Rattle.lab_draw.specs.Marks.{boxes_text}
+use Rattle.lab_draw.specs.Places.{first_serial}
 use Rattle.lab_draw.specs.Strokes.{arrows_text}
 
 -- a session over these bytes came to its end: what it wrote, and the book that it left
@@ -40,8 +41,8 @@ HasElements front program scale picture foot page = page.items
 
 -- A page has a stretch that is the picture of a machine's history: the texts of its arrows, and then of its boxes. In
 -- this stretch there is a box for each entry of the history, and for nothing else, and an arrow exactly where the steps
--- have one. Of what stands before and behind it nothing is said: there are steps that were taken out, and undos that
--- were refused.
+-- have one. The first entry stands at the left. Of what stands before and behind it nothing is said: there are steps
+-- that were taken out, and undos that were refused.
 pub record IsDrawing (m : MachineView) (bytes : List ℕ) : Type 0 where
   -- the entries with the footprints of their steps in the replay; their instruction, variable and value are any bytes
   pub steps : List Traced
@@ -49,6 +50,8 @@ pub record IsDrawing (m : MachineView) (bytes : List ℕ) : Type 0 where
   pub arrows : List Arrow
   pub exactly : (x : Arrow) → Contains arrows x ↔ IsArrow steps x
   pub scale : Scale
+  -- the first entry stands at the left
+  pub leftmost : scale.first ≡ first_serial (map box_of steps)
   pub front : List ℕ
   pub behind : List ℕ
   pub text : bytes ≡ front ++ arrows_text m.program (codes "arrow") scale arrows

@@ -1,7 +1,13 @@
 -- Where the parts of a picture stand, in points.
-use Rattle.std.specs.Prelude.{ℕ, ◌+◌, ◌-◌, ◌*◌, ◌%◌, cond, nat_lt}
+use Rattle.std.specs.Prelude.{ℕ, ◌+◌, ◌-◌, ◌*◌, ◌%◌, cond, nat_lt, List, [], ◌∷◌}
 use Rattle.lab_graph.specs.declared.picture.End.{End}
+use Rattle.lab_graph.specs.declared.picture.StepBox.{StepBox}
 use Rattle.lab_draw.specs.declared.scale.Scale.{Scale}
+
+-- the serial of the first box, which stands at the left; 1 where there is none
+abbrev pub first_serial : List StepBox → ℕ
+first_serial [] = 1
+first_serial (b ∷ bs) = b.serial
 
 -- of marks the first, of boxes the second
 abbrev pub sized : Scale → ℕ → ℕ → ℕ

@@ -1,6 +1,9 @@
 //! What is drawn beside the steps that stand: how large the picture is, what was taken out, and the undos
 //! that were refused.
 
+ghost use Rattle.std.specs.Prelude.{◌≡◌, IfOk};
+ghost use Rattle.lab_draw.specs.Places.{first_serial};
+
 use crate::front::Extent;
 use crate::marks::push_box;
 use crate::scale::Scale;
@@ -27,18 +30,33 @@ pub(crate) struct Beside<'a> {
 pub(crate) fn beside_of<'a>(
     alloc: Global,
     book: &Book,
-    steps: &'a [Traced],
+    steps: &'a [Traced<'_>],
     picture: &Picture,
-) -> AllocResult<Beside<'a>> {
+) -> AllocResult<Beside<'a>>
+    ensures { IfOk result
+        (λ beside. beside.extent.scale.first ≡ first_serial picture.now.boxes.items) }
+{
     let story = story_of(alloc, book.journal(), steps)?;
     let extent = extent_of(picture, &story, book.machine().workers());
     Ok(Beside { story, extent })
 }
 
+// The serial of the first box, which stands at the left; 1 where there is none.
+fn first_serial(boxes: &[StepBox]) -> u64
+    ensures { result ≡ first_serial boxes.now }
+{
+    match boxes {
+        [] => 1,
+        [first, ..] => first.serial,
+    }
+}
+
 // How large a picture is, by its first and its last step. Steps that were taken out before the first
 // one that stands have no column.
-fn extent_of(picture: &Picture, story: &Story<'_>, workers: u8) -> Extent {
-    let first = picture.boxes.first().map_or(1, |step| step.serial);
+fn extent_of(picture: &Picture, story: &Story<'_>, workers: u8) -> Extent
+    ensures { result.scale.first ≡ first_serial picture.now.boxes.items }
+{
+    let first = first_serial(&picture.boxes);
     let last = last_serial(&story.gone, last_serial(&picture.boxes, first));
     let scale = Scale {
         first,

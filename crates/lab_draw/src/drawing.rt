@@ -27,8 +27,8 @@ use std::thread::Threads;
 /// The reader is read to its end. It holds commands, behind a source and a line `%%` unless the options
 /// have the source. The session runs, and its replies are not shown. The history that it leaves is drawn,
 /// however long it is: each entry has a box, and an arrow to it from the last entry of each other worker
-/// that conflicts with it. What was taken out is grey and stands apart, and an undo that was refused is
-/// red.
+/// that conflicts with it. The first entry stands at the left. What was taken out is grey and stands
+/// apart, and an undo that was refused is red.
 ///
 /// Errors are `Read` (H3), where a read fails, and `Memory` (H5).
 pub fn page<H: Threads + Wait + Sync, R: Read>(
@@ -102,7 +102,7 @@ fn front_of(
     beside: &Beside<'_>,
 ) -> AllocResult<Vec<u8>> {
     let mut text = Vec::new(alloc);
-    push_front(&mut text, source, &picture.boxes, beside.extent)?;
+    push_front(alloc, &mut text, source, &picture.boxes, beside.extent)?;
     push_beside(&mut text, program, beside)?;
     Ok(text)
 }

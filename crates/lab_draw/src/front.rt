@@ -7,6 +7,8 @@ use crate::style::{FEWER, HEAD, HEADS, LEGEND, WORDS_END};
 use lab_graph::StepBox;
 use om_seq::AllocResult;
 use om_shell_commands::push_numbered;
+use std::alloc::Global;
+use std::collections::BTreeMap;
 
 /// How large a picture is.
 #[derive(Clone, Copy)]
@@ -39,13 +41,14 @@ const MANY: usize = 5_000;
 
 /// Appends all that stands before the elements of the picture.
 pub(crate) fn push_front(
+    alloc: Global,
     text: &mut Vec<u8>,
     source: &[u8],
     boxes: &[StepBox],
     extent: Extent,
 ) -> AllocResult<()> {
     text.extend_from_slice(HEAD)?;
-    push_source(text, source, boxes)?;
+    push_source(text, source, &lines_of(alloc, boxes)?)?;
     text.extend_from_slice(b"<main>\n")?;
     push_words(text, boxes.len())?;
     push_lane_names(text, extent)?;
@@ -63,12 +66,21 @@ fn push_words(text: &mut Vec<u8>, steps: usize) -> AllocResult<()> {
     text.extend_from_slice(WORDS_END)
 }
 
+// The source lines that have a box.
+fn lines_of(alloc: Global, boxes: &[StepBox]) -> AllocResult<BTreeMap<u32, ()>> {
+    let mut lines = BTreeMap::new(alloc);
+    for step in boxes {
+        let _ = lines.insert(step.line, ())?;
+    }
+    Ok(lines)
+}
+
 // Appends the source, each line with its number, and those that have a box in its hue.
-fn push_source(text: &mut Vec<u8>, source: &[u8], boxes: &[StepBox]) -> AllocResult<()> {
+fn push_source(text: &mut Vec<u8>, source: &[u8], with_box: &BTreeMap<u32, ()>) -> AllocResult<()> {
     text.extend_from_slice(b"<pre>")?;
     let mut number: u32 = 1;
     for line in without_last_end(source).split(|byte| *byte == b'\n') {
-        push_source_line(text, number, line, has_box(boxes, number))?;
+        push_source_line(text, number, line, with_box.contains_key(&number))?;
         number = number.saturating_add(1);
     }
     text.extend_from_slice(b"</pre>\n")
@@ -80,11 +92,6 @@ fn without_last_end(source: &[u8]) -> &[u8] {
         [front @ .., b'\n'] => front,
         _ => source,
     }
-}
-
-// Whether a box is of a source line.
-fn has_box(boxes: &[StepBox], line: u32) -> bool {
-    boxes.iter().any(|step| step.line == line)
 }
 
 // Appends a line of the source.

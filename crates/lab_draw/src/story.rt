@@ -17,24 +17,26 @@ pub(crate) struct Story<'a> {
     pub(crate) refused: Vec<Arrow>,
     // The serials of each worker's steps that stand, the last one last.
     standing: Vec<Vec<u64>>,
-    // The steps that stand at the end, by their serials.
-    steps: BTreeMap<u64, &'a Traced>,
+    // The local variable that each step names that stands at the end, by its serial; no bytes where it
+    // names none.
+    variables: BTreeMap<u64, &'a [u8]>,
 }
 
 /// The story of the calls of a journal that leave these steps. The only error is out of memory.
 pub(crate) fn story_of<'a>(
     alloc: Global,
     journal: &[JournalRecord],
-    steps: &'a [Traced],
+    steps: &'a [Traced<'_>],
 ) -> AllocResult<Story<'a>> {
     let mut story = Story {
         gone: Vec::new(alloc),
         refused: Vec::new(alloc),
         standing: Vec::new(alloc),
-        steps: BTreeMap::new(alloc),
+        variables: BTreeMap::new(alloc),
     };
     for step in steps {
-        let _ = story.steps.insert(step.entry.serial, step)?;
+        let variable = step.variable.as_slice();
+        let _ = story.variables.insert(step.entry.serial, variable)?;
     }
     for record in journal {
         story.follow(alloc, record)?;
@@ -140,8 +142,8 @@ impl Story<'_> {
 
     // The local variable that a step names, if it stands at the end and names one.
     fn variable_of(&self, serial: u64) -> &[u8] {
-        match self.steps.get(&serial) {
-            Some(step) => step.variable.as_slice(),
+        match self.variables.get(&serial) {
+            Some(variable) => variable,
             None => &[],
         }
     }

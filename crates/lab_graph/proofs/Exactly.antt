@@ -1,76 +1,102 @@
 -- The list of arrows has exactly the arrows.
-use Rattle.std.proofs.Common.{◌≡◌, ◌≢◌, refl, sym, ◌∙◌, ap, subst, ℕ, ◌==◌, ◌&&◌, ◌||◌, Bool, true, false, cond, Option}
-use Rattle.std.proofs.Common.{None, Some, List, [], ◌∷◌, ◌++◌, ⊎_elim, append_assoc, ◌↔◌, arith}
+use Rattle.std.proofs.Common.{◌≡◌, ◌≢◌, refl, sym, ◌∙◌, ap, subst, ℕ, zero, suc, ◌+◌, ◌<◌, ◌≤◌, ◌==◌, ◌&&◌, Bool, true, false, cond}
+use Rattle.std.proofs.Common.{Option, None, Some, List, [], ◌∷◌, ◌++◌, ⊎_elim, append_assoc, ◌↔◌, arith}
 use Rattle.std.specs.Prelude.{is_some, Contains}
 use Rattle.std.specs.List.{AllByRecursion}
+use Rattle.std.specs.Option.{option_or}
 use Rattle.std.proofs.lemmas.Bool.Decides.{Decides-eqb}
 use Rattle.std.proofs.lemmas.List.{append-nil}
 use Rattle.std.proofs.lemmas.List.Elements.{Contains-append_left, Contains-append_right, Contains-append_cases}
 use Rattle.std.proofs.lemmas.List.Elements.{Contains-push, Contains-push_cases}
 use Rattle.om_foot.specs.declared.object.Obj.{Obj}
 use Rattle.om_foot.specs.Footprint.{conflict_of}
-use Rattle.lab_graph.specs.declared.sketch.Traced.{Traced}
+use Rattle.lab_graph.specs.declared.traced.Traced.{Traced}
 use Rattle.lab_graph.specs.declared.picture.Arrow.{Arrow}
-use Rattle.lab_graph.specs.Pictures.{end_of, hides, is_hidden, object_between, arrow_at, arrow_if, arrow_between, arrows_into}
-use Rattle.lab_graph.specs.Pictures.{arrows_behind, arrows_of, variable_of, IsFreeOf, IsArrow}
+use Rattle.lab_graph.specs.Pictures.{end_of, touched, meets_from, last_meeting, arrow_at, arrow_if, arrow_to}
+use Rattle.lab_graph.specs.Pictures.{arrow_from, arrows_from, lanes, arrows_behind, arrows_of, variable_of, IsFreeOf, IsArrow}
 
--- ---- what hides an arrow
+-- ---- the last step of a worker that conflicts with a later one
 
 free : (p : Bool) (o : Option Obj) → p && is_some o ≡ false → p ≡ true → o ≡ None
 free true None h e = refl
 free true (Some q) h e = cc
 free false o h e = cc
 
-free_of : (w : ℕ) (c b : Traced) → hides w c b ≡ false → IsFreeOf w b c
-free_of w c b h e = free (c.entry.worker == w) (conflict_of c.footprint b.footprint) h
+free_of : (w : ℕ) (c b : Traced) → meets_from w c b ≡ false → IsFreeOf w b c
+free_of w c b h e = free (c.entry.worker == w) (conflict_of (touched c) (touched b)) h
     ((Decides-eqb c.entry.worker w).1 e)
 
-no_hiding : (p : Bool) (o : Option Obj) → (p ≡ true → o ≡ None) → p && is_some o ≡ false
-no_hiding true None h = refl
-no_hiding true (Some q) h = cc (h refl)
-no_hiding false o h = refl
+no_meeting : (p : Bool) (o : Option Obj) → (p ≡ true → o ≡ None) → p && is_some o ≡ false
+no_meeting true None h = refl
+no_meeting true (Some q) h = cc (h refl)
+no_meeting false o h = refl
 
-hides_not : (w : ℕ) (c b : Traced) → IsFreeOf w b c → hides w c b ≡ false
-hides_not w c b h = no_hiding (c.entry.worker == w) (conflict_of c.footprint b.footprint)
+meets_not : (w : ℕ) (c b : Traced) → IsFreeOf w b c → meets_from w c b ≡ false
+meets_not w c b h = no_meeting (c.entry.worker == w) (conflict_of (touched c) (touched b))
     (λ e. h ((Decides-eqb c.entry.worker w).0 e))
 
-neither : (p q : Bool) → cond p true q ≡ false → (p ≡ false) × (q ≡ false)
-neither true q h = cc
-neither false q h = (refl, h)
+neither : (o : Option Traced) (m : Bool) (c : Traced) → option_or o (cond m (Some c) None) ≡ None
+    → (o ≡ None) × (m ≡ false)
+neither None false c h = (refl, refl)
+neither None true c h = cc
+neither (Some x) m c h = cc
 
-from_neither : (p q : Bool) → p ≡ false → q ≡ false → cond p true q ≡ false
-from_neither true q h k = cc
-from_neither false q h k = k
+none_meets : (w : ℕ) (us : List Traced) (b : Traced) → last_meeting w us b ≡ None → AllByRecursion (IsFreeOf w b) us
+none_meets w [] b h = tt
+none_meets w (c ∷ rest) b h =
+    let both = neither (last_meeting w rest b) (meets_from w c b) c h in
+    (free_of w c b both.1, none_meets w rest b both.0)
 
-none_hides : (w : ℕ) (between : List Traced) (b : Traced) → is_hidden w between b ≡ false
-    → AllByRecursion (IsFreeOf w b) between
-none_hides w [] b h = tt
-none_hides w (c ∷ rest) b h =
-    let both = neither (hides w c b) (is_hidden w rest b) h in
-    (free_of w c b both.0, none_hides w rest b both.1)
+not_met : (w : ℕ) (us : List Traced) (b : Traced) → AllByRecursion (IsFreeOf w b) us → last_meeting w us b ≡ None
+not_met w [] b h = refl
+not_met w (c ∷ rest) b h =
+    (λ i. option_or (not_met w rest b h.1 i) (cond (meets_not w c b h.0 i) (Some c) None))
 
-not_hidden : (w : ℕ) (between : List Traced) (b : Traced) → AllByRecursion (IsFreeOf w b) between
-    → is_hidden w between b ≡ false
-not_hidden w [] b h = refl
-not_hidden w (c ∷ rest) b h =
-    from_neither (hides w c b) (is_hidden w rest b) (hides_not w c b h.0) (not_hidden w rest b h.1)
+-- where the last one stands
+record Meeting (w : ℕ) (us : List Traced) (b a : Traced) : Type 0 where
+  before : List Traced
+  between : List Traced
+  place : us ≡ before ++ a ∷ between
+  met : meets_from w a b ≡ true
+  last : AllByRecursion (IsFreeOf w b) between
 
--- ---- the arrow from one step
+meeting : (w : ℕ) (us : List Traced) (b a : Traced) → last_meeting w us b ≡ Some a → Meeting w us b a
+meeting w [] b a h = cc
+meeting w (c ∷ rest) b a h =
+    go (last_meeting w rest b) (meets_from w c b) refl refl (meeting w rest b a) h
+  where
+    go : (o : Option Traced) (m : Bool) → last_meeting w rest b ≡ o → meets_from w c b ≡ m
+        → (last_meeting w rest b ≡ Some a → Meeting w rest b a) → option_or o (cond m (Some c) None) ≡ Some a
+        → Meeting w (c ∷ rest) b a
+    go (Some x) m is met later e =
+        let more : Meeting w rest b a = later (is ∙ e) in
+        record {
+          before = c ∷ more.before;
+          between = more.between;
+          place = ap (λ l. c ∷ l) more.place;
+          met = more.met;
+          last = more.last;
+        }
+    go None true is met later e =
+        let same : c ≡ a = cc in
+        record {
+          before = [];
+          between = rest;
+          place = ap (λ (x : Traced). x ∷ rest) same;
+          met = subst (λ (x : Traced). meets_from w x b ≡ true) same met;
+          last = none_meets w rest b is;
+        }
+    go None false is met later e = cc
 
-record Parts (p h : Bool) (o : Option Obj) (q : Obj) : Type 0 where
-  other : p ≡ false
-  seen : h ≡ false
-  object : o ≡ Some q
+meets_there : (w : ℕ) (before : List Traced) (a : Traced) (between : List Traced) (b : Traced)
+    → meets_from w a b ≡ true → AllByRecursion (IsFreeOf w b) between
+    → last_meeting w (before ++ a ∷ between) b ≡ Some a
+meets_there w [] a between b met last =
+    (λ i. option_or (not_met w between b last i) (cond (met i) (Some a) None))
+meets_there w (c ∷ cs) a between b met last =
+    ap (λ o. option_or o (cond (meets_from w c b) (Some c) None)) (meets_there w cs a between b met last)
 
-parts_of : (p h : Bool) (o : Option Obj) (q : Obj) → cond (p || h) None o ≡ Some q → Parts p h o q
-parts_of true h o q e = cc
-parts_of false true o q e = cc
-parts_of false false o q e = record { other = refl; seen = refl; object = e }
-
-of_parts : (p h : Bool) (o : Option Obj) (q : Obj) → p ≡ false → h ≡ false → o ≡ Some q → cond (p || h) None o ≡ Some q
-of_parts true h o q a b e = cc
-of_parts false true o q a b e = cc
-of_parts false false o q a b e = e
+-- ---- the arrow from the steps of a worker
 
 is_false : (p : Bool) → (p ≡ true → ⊥) → p ≡ false
 is_false true h = absurd (h refl)
@@ -79,6 +105,13 @@ is_false false h = refl
 both_ways : (p : Bool) → p ≡ false → p ≡ true → ⊥
 both_ways p a b = cc
 
+first_true : (p q : Bool) → p && q ≡ true → p ≡ true
+first_true true q h = refl
+first_true false q h = cc
+
+both_true : (p q : Bool) → p ≡ true → q ≡ true → p && q ≡ true
+both_true p q a b = (λ i. a i && b i)
+
 -- an arrow into a step from one of those before it
 record IsInto (us : List Traced) (b : Traced) (x : Arrow) : Type 0 where
   before : List Traced
@@ -86,7 +119,7 @@ record IsInto (us : List Traced) (b : Traced) (x : Arrow) : Type 0 where
   between : List Traced
   place : us ≡ before ++ a ∷ between
   other_worker : a.entry.worker ≢ b.entry.worker
-  conflict : conflict_of a.footprint b.footprint ≡ Some x.object
+  conflict : conflict_of (touched a) (touched b) ≡ Some x.object
   last : AllByRecursion (IsFreeOf a.entry.worker b) between
   from_is : x.from ≡ end_of a
   to_is : x.to ≡ end_of b
@@ -98,47 +131,47 @@ nothing x h = omega (arith, h.1)
 only : {X : Type 0} (y x : X) → Contains (y ∷ []) x → y ≡ x
 only y x h = ⊎_elim (λ n. absurd (nothing x n)) (λ e. e) (Contains-push_cases [] y x h)
 
-first_by : (a : Traced) (rest : List Traced) (b : Traced) (x : Arrow) (o : Option Obj) → object_between a rest b ≡ o
-    → Contains (arrow_if a b o) x → IsInto (a ∷ rest) b x
-first_by a rest b x None e h = absurd (nothing x h)
-first_by a rest b x (Some q) e h =
+between_by : (w : ℕ) (us : List Traced) (a b : Traced) (x : Arrow) (o : Option Obj)
+    → conflict_of (touched a) (touched b) ≡ o → Meeting w us b a → b.entry.worker == w ≡ false
+    → Contains (arrow_if a b o) x → IsInto us b x
+between_by w us a b x None e m other h = absurd (nothing x h)
+between_by w us a b x (Some q) e m other h =
     let is = only _ x h in
-    let parts =
-    parts_of (a.entry.worker == b.entry.worker) (is_hidden a.entry.worker rest b)
-    (conflict_of a.footprint b.footprint) q e in
+    let own : a.entry.worker ≡ w =
+    (Decides-eqb a.entry.worker w).0
+    (first_true (a.entry.worker == w) (is_some (conflict_of (touched a) (touched b))) m.met) in
     record {
-      before = [];
+      before = m.before;
       a = a;
-      between = rest;
-      place = refl;
-      other_worker = (λ same. both_ways _ parts.other ((Decides-eqb a.entry.worker b.entry.worker).1 same));
-      conflict = parts.object ∙ ap (λ (y : Arrow). Some y.object) is;
-      last = none_hides a.entry.worker rest b parts.seen;
+      between = m.between;
+      place = m.place;
+      other_worker = (λ same. both_ways _ other ((Decides-eqb b.entry.worker w).1 (sym same ∙ own)));
+      conflict = e ∙ ap (λ (y : Arrow). Some y.object) is;
+      last = subst (λ n. AllByRecursion (IsFreeOf n b) m.between) (sym own) m.last;
       from_is = sym (ap (λ (y : Arrow). y.from) is);
       to_is = sym (ap (λ (y : Arrow). y.to) is);
       variable_is = sym (ap (λ (y : Arrow). y.variable) is);
     }
 
-behind_one : (a : Traced) (us : List Traced) (b : Traced) (x : Arrow) → IsInto us b x → IsInto (a ∷ us) b x
-behind_one a us b x y = record {
-  before = a ∷ y.before;
-  a = y.a;
-  between = y.between;
-  place = ap (λ l. a ∷ l) y.place;
-  other_worker = y.other_worker;
-  conflict = y.conflict;
-  last = y.last;
-  from_is = y.from_is;
-  to_is = y.to_is;
-  variable_is = y.variable_is;
-}
+to_sound : (w : ℕ) (us : List Traced) (b : Traced) (x : Arrow) (o : Option Traced) → last_meeting w us b ≡ o
+    → b.entry.worker == w ≡ false → Contains (arrow_to b o) x → IsInto us b x
+to_sound w us b x None e other h = absurd (nothing x h)
+to_sound w us b x (Some a) e other h =
+    between_by w us a b x (conflict_of (touched a) (touched b)) refl (meeting w us b a e) other h
 
-into_sound : (us : List Traced) (b : Traced) (x : Arrow) → Contains (arrows_into us b) x → IsInto us b x
-into_sound [] b x h = absurd (nothing x h)
-into_sound (a ∷ rest) b x h =
-    ⊎_elim (λ l. first_by a rest b x (object_between a rest b) refl l)
-    (λ r. behind_one a rest b x (into_sound rest b x r))
-    (Contains-append_cases (arrow_between a rest b) (arrows_into rest b) x h)
+from_sound : (w : ℕ) (us : List Traced) (b : Traced) (x : Arrow) → Contains (arrow_from w us b) x → IsInto us b x
+from_sound w us b x h = go (b.entry.worker == w) refl h
+  where
+    go : (p : Bool) → b.entry.worker == w ≡ p → Contains (cond p [] (arrow_to b (last_meeting w us b))) x
+        → IsInto us b x
+    go true e h = absurd (nothing x h)
+    go false e h = to_sound w us b x (last_meeting w us b) refl e h
+
+into_sound : (w n : ℕ) (us : List Traced) (b : Traced) (x : Arrow) → Contains (arrows_from w n us b) x → IsInto us b x
+into_sound w zero us b x h = absurd (nothing x h)
+into_sound w (suc n) us b x h =
+    ⊎_elim (λ l. from_sound w us b x l) (λ r. into_sound (w + 1) n us b x r)
+    (Contains-append_cases (arrow_from w us b) (arrows_from (w + 1) n us b) x h)
 
 arrow_there : (a b : Traced) (x : Arrow) → x.from ≡ end_of a → x.to ≡ end_of b → x.variable ≡ variable_of a b
     → Contains (arrow_if a b (Some x.object)) x
@@ -147,27 +180,36 @@ arrow_there a b x from_is to_is variable_is =
     λ i. record { from = sym from_is i; to = sym to_is i; object = x.object; variable = sym variable_is i } in
     subst (λ y. Contains (y ∷ []) x) (sym is) (Contains-push [] x)
 
-here : (a : Traced) (between : List Traced) (b : Traced) (x : Arrow) → object_between a between b ≡ Some x.object
-    → x.from ≡ end_of a → x.to ≡ end_of b → x.variable ≡ variable_of a b → Contains (arrow_between a between b) x
-here a between b x e from_is to_is variable_is =
-    subst (λ o. Contains (arrow_if a b o) x) (sym e) (arrow_there a b x from_is to_is variable_is)
+from_complete : (us : List Traced) (b : Traced) (x : Arrow) (y : IsInto us b x)
+    → Contains (arrow_from y.a.entry.worker us b) x
+from_complete us b x y =
+    let w : ℕ = y.a.entry.worker in
+    let other : b.entry.worker == w ≡ false =
+    is_false _ (λ e. y.other_worker (sym ((Decides-eqb b.entry.worker w).0 e))) in
+    let met : meets_from w y.a b ≡ true =
+    both_true (w == w) (is_some (conflict_of (touched y.a) (touched b))) ((Decides-eqb w w).1 refl)
+    (ap is_some y.conflict) in
+    let there : last_meeting w us b ≡ Some y.a =
+    ap (λ l. last_meeting w l b) y.place ∙ meets_there w y.before y.a y.between b met y.last in
+    let is : arrow_from w us b ≡ arrow_if y.a b (Some x.object) =
+    (λ i. cond (other i) [] (arrow_to b (there i))) ∙ ap (arrow_if y.a b) y.conflict in
+    subst (λ l. Contains l x) (sym is) (arrow_there y.a b x y.from_is y.to_is y.variable_is)
 
-into_at : (before : List Traced) (a : Traced) (between : List Traced) (b : Traced) (x : Arrow)
-    → Contains (arrow_between a between b) x → Contains (arrows_into (before ++ a ∷ between) b) x
-into_at [] a between b x h = Contains-append_left (arrow_between a between b) (arrows_into between b) x h
-into_at (p ∷ ps) a between b x h =
-    Contains-append_right (arrow_between p (ps ++ a ∷ between) b) (arrows_into (ps ++ a ∷ between) b) x
-    (into_at ps a between b x h)
-
-into_complete : (us : List Traced) (b : Traced) (x : Arrow) → IsInto us b x → Contains (arrows_into us b) x
-into_complete us b x y =
-    let object : object_between y.a y.between b ≡ Some x.object =
-    of_parts (y.a.entry.worker == b.entry.worker) (is_hidden y.a.entry.worker y.between b)
-    (conflict_of y.a.footprint b.footprint) x.object
-    (is_false _ (λ e. y.other_worker ((Decides-eqb y.a.entry.worker b.entry.worker).0 e)))
-    (not_hidden y.a.entry.worker y.between b y.last) y.conflict in
-    subst (λ l. Contains (arrows_into l b) x) (sym y.place)
-    (into_at y.before y.a y.between b x (here y.a y.between b x object y.from_is y.to_is y.variable_is))
+into_complete : (w n : ℕ) (us : List Traced) (b : Traced) (x : Arrow) (y : IsInto us b x) → w ≤ y.a.entry.worker
+    → y.a.entry.worker < w + n → Contains (arrows_from w n us b) x
+into_complete w zero us b x y low high = absurd (omega (arith, low, high))
+into_complete w (suc n) us b x y low high =
+    go (y.a.entry.worker == w) refl (λ more. into_complete (w + 1) n us b x y more (omega (arith, high)))
+  where
+    go : (p : Bool) → y.a.entry.worker == w ≡ p
+        → (w + 1 ≤ y.a.entry.worker → Contains (arrows_from (w + 1) n us b) x)
+        → Contains (arrows_from w (suc n) us b) x
+    go true e later =
+        Contains-append_left (arrow_from w us b) (arrows_from (w + 1) n us b) x
+        (subst (λ k. Contains (arrow_from k us b) x) ((Decides-eqb y.a.entry.worker w).0 e) (from_complete us b x y))
+    go false e later =
+        let other : y.a.entry.worker ≢ w = λ same. both_ways _ e ((Decides-eqb y.a.entry.worker w).1 same) in
+        Contains-append_right (arrow_from w us b) (arrows_from (w + 1) n us b) x (later (omega (arith, low, other)))
 
 -- ---- the arrows into all steps
 
@@ -188,32 +230,38 @@ next_behind front b rest x y = record {
   into = subst (λ l. IsInto l y.b x) (append_assoc front (b ∷ []) y.mid) y.into;
 }
 
-behind_sound : (front rest : List Traced) (x : Arrow) → Contains (arrows_behind front rest) x → IsBehind front rest x
-behind_sound front [] x h = absurd (nothing x h)
-behind_sound front (b ∷ rest) x h =
+behind_sound : (n : ℕ) (front rest : List Traced) (x : Arrow) → Contains (arrows_behind n front rest) x
+    → IsBehind front rest x
+behind_sound n front [] x h = absurd (nothing x h)
+behind_sound n front (b ∷ rest) x h =
     ⊎_elim (λ l. record {
       mid = [];
       b = b;
       later = rest;
       place = refl;
-      into = subst (λ us. IsInto us b x) (sym (append-nil front)) (into_sound front b x l);
+      into = subst (λ us. IsInto us b x) (sym (append-nil front)) (into_sound 0 n front b x l);
     })
-    (λ r. next_behind front b rest x (behind_sound (front ++ b ∷ []) rest x r))
-    (Contains-append_cases (arrows_into front b) (arrows_behind (front ++ b ∷ []) rest) x h)
+    (λ r. next_behind front b rest x (behind_sound n (front ++ b ∷ []) rest x r))
+    (Contains-append_cases (arrows_from 0 n front b) (arrows_behind n (front ++ b ∷ []) rest) x h)
 
-behind_at : (front mid : List Traced) (b : Traced) (later : List Traced) (x : Arrow) → IsInto (front ++ mid) b x
-    → Contains (arrows_behind front (mid ++ b ∷ later)) x
-behind_at front [] b later x h =
-    Contains-append_left (arrows_into front b) (arrows_behind (front ++ b ∷ []) later) x
-    (into_complete front b x (subst (λ us. IsInto us b x) (append-nil front) h))
-behind_at front (m ∷ ms) b later x h =
-    Contains-append_right (arrows_into front m) (arrows_behind (front ++ m ∷ []) (ms ++ b ∷ later)) x
-    (behind_at (front ++ m ∷ []) ms b later x
-    (subst (λ us. IsInto us b x) (sym (append_assoc front (m ∷ []) ms)) h))
+-- an arrow into a step from one of a worker below a number
+abbrev IsIntoBelow : ℕ → List Traced → Traced → Arrow → Type 0
+IsIntoBelow n us b x = (y : IsInto us b x) × (y.a.entry.worker < n)
+
+behind_at : (n : ℕ) (front mid : List Traced) (b : Traced) (later : List Traced) (x : Arrow)
+    → IsIntoBelow n (front ++ mid) b x → Contains (arrows_behind n front (mid ++ b ∷ later)) x
+behind_at n front [] b later x h =
+    let here : IsIntoBelow n front b x = subst (λ us. IsIntoBelow n us b x) (append-nil front) h in
+    Contains-append_left (arrows_from 0 n front b) (arrows_behind n (front ++ b ∷ []) later) x
+    (into_complete 0 n front b x here.0 (omega arith) (omega (arith, here.1)))
+behind_at n front (m ∷ ms) b later x h =
+    Contains-append_right (arrows_from 0 n front m) (arrows_behind n (front ++ m ∷ []) (ms ++ b ∷ later)) x
+    (behind_at n (front ++ m ∷ []) ms b later x
+    (subst (λ us. IsIntoBelow n us b x) (sym (append_assoc front (m ∷ []) ms)) h))
 
 sound : (ts : List Traced) (x : Arrow) → Contains (arrows_of ts) x → IsArrow ts x
 sound ts x h =
-    let y : IsBehind [] ts x = behind_sound [] ts x h in
+    let y : IsBehind [] ts x = behind_sound (lanes ts) [] ts x h in
     let z : IsInto y.mid y.b x = y.into in
     record {
       before = z.before;
@@ -230,10 +278,18 @@ sound ts x h =
       variable_is = z.variable_is;
     }
 
+-- the worker of each step has a lane
+has_lane : (before : List Traced) (a : Traced) (rest : List Traced) → a.entry.worker < lanes (before ++ a ∷ rest)
+has_lane [] a rest = omega arith
+has_lane (c ∷ cs) a rest = let more : a.entry.worker < lanes (cs ++ a ∷ rest) = has_lane cs a rest in omega (arith, more)
+
 complete : (ts : List Traced) (x : Arrow) → IsArrow ts x → Contains (arrows_of ts) x
 complete ts x y =
-    subst (λ l. Contains (arrows_of l) x) (sym y.place)
-    (behind_at [] (y.before ++ y.a ∷ y.between) y.b y.later x (record {
+    let front : List Traced = y.before ++ y.a ∷ y.between in
+    let lane : y.a.entry.worker < lanes (front ++ y.b ∷ y.later) =
+    subst (λ l. y.a.entry.worker < lanes l) (sym (append_assoc y.before (y.a ∷ y.between) (y.b ∷ y.later)))
+    (has_lane y.before y.a (y.between ++ y.b ∷ y.later)) in
+    let into : IsInto front y.b x = record {
       before = y.before;
       a = y.a;
       between = y.between;
@@ -244,7 +300,9 @@ complete ts x y =
       from_is = y.from_is;
       to_is = y.to_is;
       variable_is = y.variable_is;
-    }))
+    } in
+    subst (λ l. Contains (arrows_of l) x) (sym y.place)
+    (behind_at (lanes (front ++ y.b ∷ y.later)) [] front y.b y.later x (into, lane))
 
 -- what the list has is an arrow, and each arrow is in the list
 pub exactly : (ts : List Traced) (x : Arrow) → Contains (arrows_of ts) x ↔ IsArrow ts x

@@ -1,2 +1,3 @@
-pub mod Apart
+pub mod Ranked
+pub mod Adding
 pub mod Exactly

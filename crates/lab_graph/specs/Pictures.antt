@@ -1,12 +1,15 @@
 -- The picture of a history: its boxes and its arrows.
-use Rattle.std.specs.Prelude.{◌≡◌, ◌≢◌, ◌==◌, ◌&&◌, ◌||◌, ℕ, Bool, true, false, cond, not, is_some, Option, None, Some, List}
+use Rattle.std.specs.Prelude.{◌≡◌, ◌≢◌, ◌==◌, ◌&&◌, ◌+◌, ℕ, zero, suc, max, Bool, cond, is_some, Option, None, Some, List}
 use Rattle.std.specs.Prelude.{[], ◌∷◌, ◌++◌, ◌↔◌, Contains, Vec}
+use Rattle.std.specs.Option.{option_or}
 use Rattle.std.specs.declared.alloc.Global.{Global}
 use Rattle.std.specs.List.{AllByRecursion}
+use Rattle.om_foot.specs.declared.footprint.Access.{Access}
 use Rattle.om_foot.specs.declared.object.Obj.{Obj}
 use Rattle.om_foot.specs.Footprint.{conflict_of}
+use Rattle.om_undo_touches.specs.Accesses.{accesses_of}
 use Rattle.om_undo_history.specs.Laws.{Apart}
-use Rattle.lab_graph.specs.declared.sketch.Traced.{Traced}
+use Rattle.lab_graph.specs.declared.traced.Traced.{Traced}
 use Rattle.lab_graph.specs.declared.picture.StepBox.{StepBox}
 use Rattle.lab_graph.specs.declared.picture.End.{End}
 use Rattle.lab_graph.specs.declared.picture.Arrow.{Arrow}
@@ -24,23 +27,18 @@ box_of t = record {
 abbrev pub end_of : Traced → End
 end_of t = record { serial = t.entry.serial; worker = t.entry.worker }
 
--- a step that a worker made and that conflicts with a later one, so that an arrow from an earlier step of this worker
--- would say no more
-abbrev pub hides : ℕ → Traced → Traced → Bool
-hides w c b = (c.entry.worker == w) && is_some (conflict_of c.footprint b.footprint)
+-- what a step touched
+abbrev pub touched : Traced → List Access
+touched t = accesses_of t.footprint.now
 
-abbrev pub is_hidden : ℕ → List Traced → Traced → Bool
-is_hidden w [] b = false
-is_hidden w (c ∷ rest) b = cond (hides w c b) true (is_hidden w rest b)
+-- a step is a worker's and conflicts with a later one
+abbrev pub meets_from : ℕ → Traced → Traced → Bool
+meets_from w a b = (a.entry.worker == w) && is_some (conflict_of (touched a) (touched b))
 
--- a step conflicts with a later one of another worker
-abbrev pub meets_other : Traced → Traced → Bool
-meets_other a b = not (a.entry.worker == b.entry.worker) && is_some (conflict_of a.footprint b.footprint)
-
--- the object that an arrow from one step to a later one names, if there is such an arrow
-abbrev pub object_between : Traced → List Traced → Traced → Option Obj
-object_between a between b = cond ((a.entry.worker == b.entry.worker) || is_hidden a.entry.worker between b) None
-    (conflict_of a.footprint b.footprint)
+-- the last of some steps that is a worker's and conflicts with a later one
+abbrev pub last_meeting : ℕ → List Traced → Traced → Option Traced
+last_meeting w [] b = None
+last_meeting w (a ∷ rest) b = option_or (last_meeting w rest b) (cond (meets_from w a b) (Some a) None)
 
 -- the first of two names that has bytes
 abbrev pub first_named : List ℕ → List ℕ → List ℕ
@@ -58,33 +56,44 @@ abbrev pub arrow_if : Traced → Traced → Option Obj → List Arrow
 arrow_if a b None = []
 arrow_if a b (Some q) = arrow_at a b q ∷ []
 
-abbrev pub arrow_between : Traced → List Traced → Traced → List Arrow
-arrow_between a between b = arrow_if a b (object_between a between b)
+-- the arrow from a step to a later one, where the two conflict
+abbrev pub arrow_between : Traced → Traced → List Arrow
+arrow_between a b = arrow_if a b (conflict_of (touched a) (touched b))
 
--- the arrows into a step from those that stand before it
-abbrev pub arrows_into : List Traced → Traced → List Arrow
-arrows_into [] b = []
-arrows_into (a ∷ rest) b = arrow_between a rest b ++ arrows_into rest b
+abbrev pub arrow_to : Traced → Option Traced → List Arrow
+arrow_to b None = []
+arrow_to b (Some a) = arrow_between a b
 
--- the arrows into steps that stand behind others
-abbrev pub arrows_behind : List Traced → List Traced → List Arrow
-arrows_behind before [] = []
-arrows_behind before (b ∷ rest) = arrows_into before b ++ arrows_behind (before ++ b ∷ []) rest
+-- the arrow into a step from the steps of a worker before it: from the last one that conflicts with it, and from none
+-- of its own worker
+abbrev pub arrow_from : ℕ → List Traced → Traced → List Arrow
+arrow_from w before b = cond (b.entry.worker == w) [] (arrow_to b (last_meeting w before b))
+
+-- the arrows from the steps of so many workers, from one on
+abbrev pub arrows_from : ℕ → ℕ → List Traced → Traced → List Arrow
+arrows_from w zero before b = []
+arrows_from w (suc n) before b = arrow_from w before b ++ arrows_from (w + 1) n before b
+
+-- how many lanes there are: the worker of each step is below this number
+abbrev pub lanes : List Traced → ℕ
+lanes [] = 0
+lanes (t ∷ ts) = max (t.entry.worker + 1) (lanes ts)
+
+-- the arrows into steps that stand behind others, of so many lanes
+abbrev pub arrows_behind : ℕ → List Traced → List Traced → List Arrow
+arrows_behind n before [] = []
+arrows_behind n before (b ∷ rest) = arrows_from 0 n before b ++ arrows_behind n (before ++ b ∷ []) rest
 
 abbrev pub arrows_of : List Traced → List Arrow
-arrows_of ts = arrows_behind [] ts
+arrows_of ts = arrows_behind (lanes ts) [] ts
 
--- the arrow from a step to a later one, if there is one, was added behind other arrows
-abbrev pub AddsBetween : (old new : Vec Arrow Global) → Traced → List Traced → Traced → Type 0
-AddsBetween old new a between b = new.items ≡ old.items ++ arrow_between a between b
-
--- the arrows into a step were added behind other arrows
-abbrev pub AddsInto : (old new : Vec Arrow Global) → List Traced → Traced → Type 0
-AddsInto old new before b = new.items ≡ old.items ++ arrows_into before b
+-- the arrow from a step to a later one, where the two conflict, was added behind other arrows
+abbrev pub AddsIf : (old new : Vec Arrow Global) → Traced → Traced → Type 0
+AddsIf old new a b = new.items ≡ old.items ++ arrow_between a b
 
 -- a step of the same worker would not do
 abbrev pub IsFreeOf : ℕ → Traced → Traced → Type 0
-IsFreeOf w b c = c.entry.worker ≡ w → Apart c.footprint b.footprint
+IsFreeOf w b c = c.entry.worker ≡ w → Apart (touched c) (touched b)
 
 -- Where an arrow stands: from a step to a later one of another worker that conflicts with it, named by the first object
 -- at which they do; and no step between them that the earlier one's worker made conflicts with the later one.
@@ -96,7 +105,7 @@ pub record IsArrow (ts : List Traced) (x : Arrow) : Type 0 where
   pub later : List Traced
   pub place : ts ≡ (before ++ a ∷ between) ++ b ∷ later
   pub other_worker : a.entry.worker ≢ b.entry.worker
-  pub conflict : conflict_of a.footprint b.footprint ≡ Some x.object
+  pub conflict : conflict_of (touched a) (touched b) ≡ Some x.object
   pub last : AllByRecursion (IsFreeOf a.entry.worker b) between
   pub from_is : x.from ≡ end_of a
   pub to_is : x.to ≡ end_of b

@@ -1,57 +1,38 @@
 //! The arrows of a history: to each step from the last earlier step of each other worker that conflicts
 //! with it.
 
-ghost use Rattle.std.specs.Prelude.{◌≡◌, IfOk, OnOk};
-ghost use Rattle.lab_graph.specs.Pictures.{hides, is_hidden, meets_other, object_between, first_named, arrow_at, arrows_of, AddsBetween, AddsInto};
+ghost use Rattle.std.specs.Prelude.{◌≡◌, ◌<◌, ◌-◌, length, take, get_or, IfOk, OnOk};
+ghost use Rattle.lab_graph.specs.Ranks.{AreByWorker, StandIn, StandsIn, AddsFrom, AddsInto};
+ghost use Rattle.lab_graph.specs.Pictures.{first_named, arrow_at, arrows_of, AddsIf};
 
+use crate::lanes::{is_of, last_meeting, touches_by_worker};
 use crate::picture::{Arrow, end_of};
-use crate::sketch::{Sketch, Traced, sketches_of};
-use om_foot::{Obj, conflict};
+use crate::traced::Traced;
+use om_foot::Obj;
 use om_seq::{AllocResult, Seq};
+use om_undo_touches::{TouchLists, conflict};
 use std::alloc::Global;
 
-// Whether a step is a worker's and conflicts with a later one.
-fn hides(worker: u8, step: &Sketch<'_>, later: &Sketch<'_>) -> bool
-    ensures { result ≡ hides worker step.now later.now }
-{
-    step.worker() == worker && step.meets(later)
+// A step, with the steps before it and its rank: one more than there are steps after it.
+#[derive(Clone, Copy)]
+struct Spot<'a, 'm> {
+    before: &'a [Traced<'m>],
+    later: &'a Traced<'m>,
+    rank: u64,
 }
 
-// Whether one of the steps before a later one is a worker's and conflicts with it.
-fn is_hidden(worker: u8, between: &[Sketch<'_>], later: &Sketch<'_>) -> bool
-    ensures { result ≡ is_hidden worker between.now later.now }
+// The step at an index, with what stands before it.
+fn spot_at<'a, 'm>(steps: &'a [Traced<'m>], at: usize) -> Spot<'a, 'm>
+    requires { at < length steps.now }
+    ensures before { result.before.now ≡ take at steps.now }
+    ensures later { result.later.now ≡ get_or steps.now at result.later.now }
+    ensures rank { result.rank ≡ length steps.now - at }
 {
-    for step in between {
-        if hides(worker, step, later) {
-            return true;
-        }
+    Spot {
+        before: &steps[..at],
+        later: &steps[at],
+        rank: (steps.len() - at) as u64,
     }
-    false
-}
-
-// Whether a step conflicts with a later one of another worker: else there is no arrow. Most pairs of steps
-// are told apart here.
-fn meets_other(earlier: &Sketch<'_>, later: &Sketch<'_>) -> bool
-    ensures { result ≡ meets_other earlier.now later.now }
-{
-    earlier.worker() != later.worker() && earlier.meets(later)
-}
-
-// The object that an arrow from a step to a later one names; `None` where there is no such arrow.
-fn object_between(earlier: &Sketch<'_>, between: &[Sketch<'_>], later: &Sketch<'_>) -> Option<Obj>
-    ensures { result ≡ object_between earlier.now between.now later.now }
-{
-    if earlier.worker() == later.worker() {
-        return None;
-    }
-    let object = conflict(
-        earlier.step().footprint.as_slice(),
-        later.step().footprint.as_slice(),
-    )?;
-    if is_hidden(earlier.worker(), between, later) {
-        return None;
-    }
-    Some(object)
 }
 
 // The first of two names that has bytes.
@@ -65,7 +46,12 @@ fn first_named<'a>(earlier: &'a [u8], later: &'a [u8]) -> &'a [u8]
 }
 
 // The arrow from a step to a later one at an object. Its only error is out of memory.
-fn arrow_at(alloc: Global, earlier: &Traced, later: &Traced, object: Obj) -> AllocResult<Arrow>
+fn arrow_at(
+    alloc: Global,
+    earlier: &Traced<'_>,
+    later: &Traced<'_>,
+    object: Obj,
+) -> AllocResult<Arrow>
     ensures { IfOk result (λ arrow. arrow ≡ arrow_at earlier.now later.now object) }
 {
     let variable = first_named(earlier.variable.as_slice(), later.variable.as_slice());
@@ -78,55 +64,79 @@ fn arrow_at(alloc: Global, earlier: &Traced, later: &Traced, object: Obj) -> All
     })
 }
 
-// Adds the arrow from a step to a later one, if there is one. When out of memory, nothing changes.
+// Adds the arrow from a step to a later one, where the two conflict. When out of memory, nothing changes.
 fn push_arrow(
     alloc: Global,
     arrows: &mut Vec<Arrow>,
-    earlier: &Sketch<'_>,
-    between: &[Sketch<'_>],
-    later: &Sketch<'_>,
+    earlier: &Traced<'_>,
+    later: &Traced<'_>,
 ) -> AllocResult<()>
-    ensures { OnOk result (AddsBetween arrows.old arrows.new earlier.now between.now later.now) }
+    ensures { OnOk result (AddsIf arrows.old arrows.new earlier.now later.now) }
 {
-    if !meets_other(earlier, later) {
+    let Some(object) = conflict(earlier.footprint, later.footprint) else {
         return Ok(());
-    }
-    if let Some(object) = object_between(earlier, between, later) {
-        arrows.push(arrow_at(alloc, earlier.step(), later.step(), object)?)?;
-    }
+    };
+    arrows.push(arrow_at(alloc, earlier, later, object)?)?;
     Ok(())
 }
 
-// Adds the arrows into a step from those that stand before it.
+// Adds the arrow into a step from the steps of a worker, by their touches, if there is one.
+fn push_arrow_from(
+    alloc: Global,
+    arrows: &mut Vec<Arrow>,
+    worker: usize,
+    touches: &TouchLists,
+    spot: &Spot<'_, '_>,
+) -> AllocResult<()>
+    requires { StandsIn worker touches.now spot.now }
+    ensures { OnOk result (AddsFrom arrows.old arrows.new worker spot.now) }
+{
+    if is_of(spot.later, worker) {
+        return Ok(());
+    }
+    match last_meeting(touches, spot.before, spot.later, spot.rank) {
+        Some(earlier) => push_arrow(alloc, arrows, earlier, spot.later),
+        None => Ok(()),
+    }
+}
+
+// Adds the arrows into a step, by the touches of each worker's steps.
 fn push_arrows_into(
     alloc: Global,
     arrows: &mut Vec<Arrow>,
-    before: &[Sketch<'_>],
-    later: &Sketch<'_>,
+    lanes: &[TouchLists],
+    spot: &Spot<'_, '_>,
 ) -> AllocResult<()>
-    ensures { OnOk result (AddsInto arrows.old arrows.new before.now later.now) }
+    requires { StandIn lanes.now spot.now }
+    ensures { OnOk result (AddsInto arrows.old arrows.new lanes.now spot.now) }
 {
-    for (at, earlier) in before.iter().enumerate() {
-        push_arrow(alloc, arrows, earlier, &before[at + 1..], later)?;
+    for (worker, touches) in lanes.iter().enumerate() {
+        push_arrow_from(alloc, arrows, worker, touches, spot)?;
     }
     Ok(())
 }
 
-// The arrows between steps, by their sketches.
-fn arrows_between(alloc: Global, steps: &[Sketch<'_>]) -> AllocResult<Vec<Arrow>>
+// The arrows between steps, by the touches of each worker's steps.
+fn arrows_between(
+    alloc: Global,
+    steps: &[Traced<'_>],
+    lanes: &[TouchLists],
+) -> AllocResult<Vec<Arrow>>
+    requires { AreByWorker steps.now lanes.now }
     ensures { IfOk result (λ arrows. arrows.items ≡ arrows_of steps.now) }
 {
     let mut arrows = Vec::new(alloc);
-    for (at, later) in steps.iter().enumerate() {
-        push_arrows_into(alloc, &mut arrows, &steps[..at], later)?;
+    for at in 0..steps.len() {
+        let spot = spot_at(steps, at);
+        push_arrows_into(alloc, &mut arrows, lanes, &spot)?;
     }
     Ok(arrows)
 }
 
 /// The arrows of a history, in the order of the later steps. Its only error is out of memory.
-pub(crate) fn arrows_of(alloc: Global, steps: &[Traced]) -> AllocResult<Vec<Arrow>>
+pub(crate) fn arrows_of(alloc: Global, steps: &[Traced<'_>]) -> AllocResult<Vec<Arrow>>
     ensures { IfOk result (λ arrows. arrows.items ≡ arrows_of steps.now) }
 {
-    let sketches = sketches_of(alloc, steps)?;
-    arrows_between(alloc, &sketches)
+    let lanes = touches_by_worker(alloc, steps)?;
+    arrows_between(alloc, steps, &lanes)
 }

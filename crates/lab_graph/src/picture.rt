@@ -4,7 +4,7 @@ ghost use Rattle.std.specs.Prelude.{◌≡◌, map, IfOk};
 ghost use Rattle.lab_graph.specs.Pictures.{box_of, end_of, arrows_of, AreArrows};
 
 use crate::arrows::arrows_of;
-use crate::sketch::Traced;
+use crate::traced::Traced;
 use om_foot::Obj;
 use om_seq::{AllocResult, Seq};
 use std::alloc::Global;
@@ -53,12 +53,12 @@ pub struct Arrow {
 pub struct Picture {
     /// The steps that stand, in the order of the history.
     pub boxes: Vec<StepBox>,
-    /// The arrows between them, in the order of the later steps.
+    /// The arrows between them, in the order of the later steps, and of the workers that they come from.
     pub arrows: Vec<Arrow>,
 }
 
 /// The end of an arrow at a step.
-pub(crate) fn end_of(step: &Traced) -> End
+pub(crate) fn end_of(step: &Traced<'_>) -> End
     ensures { result ≡ end_of step.now }
 {
     End {
@@ -68,7 +68,7 @@ pub(crate) fn end_of(step: &Traced) -> End
 }
 
 // The box of a step. Its only error is out of memory.
-fn box_of(alloc: Global, step: &Traced) -> AllocResult<StepBox>
+fn box_of(alloc: Global, step: &Traced<'_>) -> AllocResult<StepBox>
     ensures { IfOk result (λ b. b ≡ box_of step.now) }
 {
     let instruction = Vec::from_slice(alloc, step.instruction.as_slice())?;
@@ -84,7 +84,7 @@ fn box_of(alloc: Global, step: &Traced) -> AllocResult<StepBox>
 }
 
 // The boxes of steps, in their order. Its only error is out of memory.
-fn boxes_of(alloc: Global, steps: &[Traced]) -> AllocResult<Vec<StepBox>>
+fn boxes_of(alloc: Global, steps: &[Traced<'_>]) -> AllocResult<Vec<StepBox>>
     ensures { IfOk result (λ boxes. boxes.items ≡ map box_of steps.now) }
 {
     let mut boxes = Vec::new(alloc);
@@ -99,7 +99,7 @@ fn boxes_of(alloc: Global, steps: &[Traced]) -> AllocResult<Vec<StepBox>>
 /// Each step has a box, and each box is a step's. There is an arrow from a step to a later one of
 /// another worker exactly where the two conflict, and no step between them that the earlier one's
 /// worker made conflicts with the later one.
-pub fn picture_of(alloc: Global, steps: &[Traced]) -> AllocResult<Picture>
+pub fn picture_of(alloc: Global, steps: &[Traced<'_>]) -> AllocResult<Picture>
     ensures boxes { IfOk result (λ p. p.boxes.items ≡ map box_of steps.now) }
     ensures arrows { IfOk result (λ p. p.arrows.items ≡ arrows_of steps.now) }
     ensures exactly { IfOk result (λ p. AreArrows steps.now p.arrows.items) }

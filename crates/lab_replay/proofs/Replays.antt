@@ -1,7 +1,8 @@
 -- A history that is made again from its entries.
 use Rattle.std.proofs.Common.{◌≡◌, refl, ap, sym, ◌∙◌, subst, ℕ, suc, ◌+◌, ◌<◌, Option, None, Some, List, [], ◌∷◌, ◌++◌}
 use Rattle.std.proofs.Common.{length, take, drop, get_or, arith, length-append, take-append-drop}
-use Rattle.std.specs.Prelude.{map, unwrap_or}
+use Rattle.std.specs.Prelude.{cond, map, nat_eq, option_map, unwrap_or, Bool, true, false}
+use Rattle.std.proofs.lemmas.Bool.Decides.{Decides-eqb}
 use Rattle.std.proofs.lemmas.List.{map-append, take_more}
 use Rattle.std.proofs.Math.Seq.{drop-cons}
 use Rattle.om_foot.specs.declared.footprint.Access.{Access}
@@ -26,12 +27,14 @@ use Rattle.om_task.specs.Plans.{PlanHasRoom}
 use Rattle.om_undo_history.specs.declared.history.History as kept
 use Rattle.om_undo_history.specs.declared.records.UndoRecord.{UndoRecord}
 use Rattle.om_undo_history.specs.Laws.{steps_then, steps_from}
-use Rattle.om_undo_history.specs.Runs.{History, label_of, entry_for, history_with, after_step, state_of_entries}
+use Rattle.om_undo_history.specs.Runs.{History, label_of, entry_for, history_with, after_step, state_of_entries, state_after_step}
 use Rattle.om_undo_history.specs.Cones.{Transition, with_footprints, transitions}
 use Rattle.om_undo_history.specs.Records.{entries_of, ReplaysTo}
 use Rattle.om_undo_history.specs.Pasts.{past_in, history_in, IsHeld, IsPlanned, IsReplay, step_for}
-use Rattle.om_undo.specs.Machines.{IsPlan, PlansAt}
-use Rattle.lab_graph.specs.declared.sketch.Traced.{Traced}
+use Rattle.om_undo_history.specs.Commands.{Rise}
+use Rattle.om_undo_history.specs.Standing.{footprint_of, standing_from, stands}
+use Rattle.om_undo.specs.Machines.{IsPlan, MachineView, PlansAt, footprint_in, rules_for}
+use Rattle.lab_graph.specs.declared.traced.Traced.{Traced}
 use Rattle.lab_replay.specs.Traces.{transition_of, CanBeMade, footprint_for, transition_for, IsLonger, IsRemade}
 
 -- ---- a plan, and the step that it stands for
@@ -45,10 +48,6 @@ is_planned r h l p change e is = (is.held, sym (subst (PlansAt r l (past_in h).s
 pub has_room : (r : Rules) (h : kept.History) (l : Label) (p : Plan) (change : Change) → p ≡ plan.Updates change
     → IsPlan r h l p → HaveRoom change.edits (control_in ((past_in h).state (obj.Control l.worker)))
 has_room r h l p change e is = subst (PlanHasRoom (control_in ((past_in h).state (obj.Control l.worker)))) e is.room
-
-pub footprint_is : (r : Rules) (h : kept.History) (l : Label) (p : Plan) (change : Change) → p ≡ plan.Updates change
-    → IsPlan r h l p → change.footprint ≡ footprint_for r h l
-footprint_is r h l p change e is = ap (λ (d : Step). d.footprint) (is_planned r h l p change e is).1
 
 -- the plan at the state of a history's store is the plan there
 pub is_plan : (r : Rules) (h : kept.History) (l : Label) (s : State) (p : Plan) → IsHeld r h → s ≡ (past_in h).state
@@ -194,3 +193,50 @@ split_at es i e less is =
 pub taken_more : (es : List Entry) (i : ℕ) (e : Entry) → i < length es → e ≡ get_or es i e
     → take (i + 1) es ≡ take i es ++ e ∷ []
 taken_more es i e less is = take_more es i e less ∙ ap (λ x. take i es ++ x ∷ []) (sym is)
+
+-- ---- what the machine keeps of a step's footprint
+
+nat_self : (x : ℕ) → nat_eq x x ≡ true
+nat_self x = (Decides-eqb x x).1 refl
+
+nat_below : (x y : ℕ) → x < y → nat_eq x y ≡ false
+nat_below x y h = go (nat_eq x y) refl
+  where
+    go : (b : Bool) → nat_eq x y ≡ b → b ≡ false
+    go false e = refl
+    go true e = absurd (omega (arith, h, (Decides-eqb x y).0 e))
+
+rises_below : (low high : ℕ) (done : List Entry) (e : Entry) (rest : List Entry) → Rise low (done ++ e ∷ rest) high
+    → low < e.serial
+rises_below low high [] e rest h = h.0
+rises_below low high (x ∷ xs) e rest h =
+    let more : x.serial < e.serial = rises_below x.serial high xs e rest h.1 in omega (arith, h.0, more)
+
+-- an entry stands where those before it lead to
+stands_there : (r : Rules) (from s : State) (low high : ℕ) (done : List Entry) (e : Entry) (rest : List Entry)
+    → replay_from r from (map label_of done) ≡ Some s → Rise low (done ++ e ∷ rest) high
+    → standing_from r from e.serial (done ++ e ∷ rest) ≡ Some (stands e s)
+stands_there r from s low high [] e rest h rises =
+    ap (λ b. cond b (Some (stands e from))
+    (standing_from r (state_after_step r from (label_of e)) e.serial rest)) (nat_self e.serial)
+    ∙ ap (λ t. Some (stands e t)) (same_state from s h)
+stands_there r from s low high (x ∷ xs) e rest h rises =
+    let f : State → Option State = λ t. replay_from r t (map label_of xs) in
+    let y : Then r (next_state r from (label_of x)) f s = then_by r (next_state r from (label_of x)) f s h in
+    ap (λ b. cond b (Some (stands x from))
+    (standing_from r (state_after_step r from (label_of x)) e.serial (xs ++ e ∷ rest)))
+    (nat_below x.serial e.serial (rises_below x.serial high xs e rest rises.1))
+    ∙ ap (λ o. standing_from r (unwrap_or o from) e.serial (xs ++ e ∷ rest)) y.first
+    ∙ stands_there r y.mid s x.serial high xs e rest y.rest rises.1
+
+-- what a machine keeps of an entry's footprint is what its step touches where those before it were made again
+pub touched_is : (m : MachineView) (h : kept.History) (done : List Entry) (steps : List Traced) (e : Entry)
+    (rest : List Entry) → m.history.entries ≡ done ++ e ∷ rest → Rise 0 m.history.entries m.history.made
+    → IsRemade (rules_for m) h done steps
+    → footprint_in m e.serial ≡ Some (footprint_for (rules_for m) h (label_of e))
+touched_is m h done steps e rest split rises is =
+    let r : Rules = rules_for m in
+    ap (λ es. option_map (footprint_of r) (standing_from r r.start e.serial es)) split
+    ∙ ap (option_map (footprint_of r))
+    (stands_there r r.start (past_in h).state 0 m.history.made done e rest (state_is r h done steps is)
+    (subst (λ es. Rise 0 es m.history.made) split rises))

@@ -1,6 +1,5 @@
 -- Histories that are made again from their entries, with what each step touched.
-use Rattle.std.specs.Prelude.{◌≡◌, ◌+◌, ℕ, Some, List, [], ◌∷◌, ◌++◌, map, length}
-use Rattle.om_code.specs.declared.raw.Raw.{Raw}
+use Rattle.std.specs.Prelude.{◌≡◌, ◌+◌, Some, List, [], ◌∷◌, ◌++◌, map, length}
 use Rattle.om_foot.specs.declared.footprint.Access.{Access}
 use Rattle.om_state.specs.declared.step.Label.{Label}
 use Rattle.om_state.specs.declared.step.Entry.{Entry}
@@ -11,21 +10,21 @@ use Rattle.om_undo_history.specs.Runs.{label_of}
 use Rattle.om_undo_history.specs.Cones.{Transition, transitions}
 use Rattle.om_undo_history.specs.Pasts.{past_in, history_in, IsHeld}
 use Rattle.om_task.specs.declared.planned.Plan.{Plan}
-use Rattle.om_task.specs.Rules.{rules_of}
 use Rattle.om_undo.specs.Machines.{IsPlan, MachineView, rules_for}
-use Rattle.lab_graph.specs.declared.sketch.Traced.{Traced}
+use Rattle.lab_graph.specs.declared.traced.Traced.{Traced}
+use Rattle.lab_graph.specs.Pictures.{touched}
 
 -- an entry with what its step touched; what it did is left out
 abbrev pub transition_of : Traced → Transition
-transition_of t = record { entry = t.entry; footprint = t.footprint }
+transition_of t = record { entry = t.entry; footprint = touched t }
 
 -- the entries of steps, with what each touched
 abbrev pub traced : List Traced → List Transition
 traced steps = map transition_of steps
 
--- the entries, each with what its step touches in a replay from the start of a program with so many workers
-abbrev pub replayed : Raw → ℕ → List Entry → List Transition
-replayed program workers entries = transitions (rules_of program workers) entries
+-- entries, each with what its step touches in a replay from the start of a machine's program
+abbrev pub replayed : MachineView → List Entry → List Transition
+replayed m entries = transitions (rules_for m) entries
 
 -- the entries of a machine's history, each with what its step touches in a replay from the start
 abbrev pub transitions_of : MachineView → List Transition
@@ -46,9 +45,9 @@ footprint_for r h l = (step_at r (past_in h).state l).footprint
 abbrev pub transition_for : Rules → History → Entry → Transition
 transition_for r h e = record { entry = e; footprint = footprint_for r h (label_of e) }
 
--- a step has this entry, and what the entry's step touches where a history of the program stands
-abbrev pub IsTraced : Raw → ℕ → History → Entry → Traced → Type 0
-IsTraced program workers h e step = transition_of step ≡ transition_for (rules_of program workers) h e
+-- a step has this entry, and what the entry's step touches where a history of a machine's program stands
+abbrev pub IsTraced : MachineView → History → Entry → Traced → Type 0
+IsTraced m h e step = transition_of step ≡ transition_for (rules_for m) h e
 
 -- a history, and the same with one more step
 pub record IsLonger (r : Rules) (old new : History) (l : Label) : Type 0 where
@@ -63,19 +62,15 @@ pub record IsRemade (r : Rules) (h : History) (done : List Entry) (steps : List 
   pub made : (past_in h).made ≡ length done
   pub noted : map transition_of steps ≡ transitions r done
 
--- the step of an entry was made again where a history of the program stands
-abbrev pub Remakes : Raw → ℕ → (old new : History) → Entry → Type 0
-Remakes program workers old new e = IsLonger (rules_of program workers) old new (label_of e)
+-- the step of an entry was made again where a history of a machine's program stands
+abbrev pub Remakes : MachineView → (old new : History) → Entry → Type 0
+Remakes m old new e = IsLonger (rules_for m) old new (label_of e)
 
 -- ---- what holds by whatever rules a plan was made
 
 -- it is a plan for a step that can be made where a history stands
 abbrev pub IsForStep : History → Label → Plan → Type 0
 IsForStep h l plan = (r : Rules) × IsPlan r h l plan × CanBeMade r h l
-
--- these accesses are what the step of a plan touches
-abbrev pub IsTouched : History → Label → Plan → List Access → Type 0
-IsTouched h l plan footprint = (r : Rules) → IsPlan r h l plan → footprint ≡ footprint_for r h l
 
 -- the history has the step of a plan more
 abbrev pub HasStep : (old new : History) → Label → Plan → Type 0

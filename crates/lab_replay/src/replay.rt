@@ -1,18 +1,17 @@
-//! The steps of a history, made again one by one, with what each touched and did.
+//! The steps of a history, with what each touched and did: what it touched stands in the machine, and what
+//! it did is found as they are made again one by one.
 
-ghost use Rattle.std.specs.Prelude.{◌≡◌, ◌≤◌, ◌<◌, ◌^◌, length, IfOk, OnOk};
-ghost use Rattle.om_task.specs.Rules.{rules_of};
+ghost use Rattle.std.specs.Prelude.{◌≡◌, ◌<◌, ◌^◌, Some, length, IfOk, OnOk};
+ghost use Rattle.om_undo_history.specs.Commands.{Rise};
 ghost use Rattle.om_undo_history.specs.Runs.{label_of};
 ghost use Rattle.om_undo_history.specs.Pasts.{past_in, IsHeld};
-ghost use Rattle.om_undo.specs.Machines.{IsPlan};
-ghost use Rattle.lab_replay.specs.Traces.{CanBeMade, CanReplay, HasStep, IsForStep, IsTouched, IsTraced, Remakes, replayed, traced, transitions_of};
+ghost use Rattle.om_undo.specs.Machines.{IsPlan, footprint_in, rules_for};
+ghost use Rattle.lab_replay.specs.Traces.{CanBeMade, CanReplay, HasStep, IsForStep, IsTraced, Remakes, footprint_for, replayed, traced, transitions_of};
 
 use crate::words::{Spoken, Words};
 use lab_graph::Traced;
-use om_code::Program;
-use om_foot::{Access, Mode, Names, Obj};
-use om_seq::{AllocResult, Seq};
-use om_state::{Footprint, Label};
+use om_seq::AllocResult;
+use om_state::Label;
 use om_task::laws::low_counters;
 use om_task::start::started;
 use om_task::{Plan, plan};
@@ -21,34 +20,35 @@ use om_undo::{Entry, Machine};
 use om_undo_history::History;
 use std::alloc::Global;
 
-/// The steps of a machine's history, each with what it touched and did at its place in the replay.
-/// They are made again, each once. The only error is out of memory.
-pub fn trace(alloc: Global, machine: &Machine) -> AllocResult<Vec<Traced>>
+/// The steps of a machine's history, each with what it touched and did at its place in the replay. What it
+/// touched is what the machine keeps. For the words of what they did they are made again, each once. The
+/// only error is out of memory.
+pub fn trace<'m>(alloc: Global, machine: &'m Machine) -> AllocResult<Vec<Traced<'m>>>
     ensures { IfOk result (λ steps. traced steps.items ≡ transitions_of machine.now) }
 {
     let entries = machine.history(alloc)?;
-    retraced(alloc, machine.program(), machine.workers(), &entries)
+    retraced(alloc, machine, &entries)
 }
 
-// The steps of entries that can be made in turn from the start of a program with so many workers. The
-// only error is out of memory.
-fn retraced(
+// The steps of a machine's entries, which can be made in turn. The only error is out of memory.
+fn retraced<'m>(
     alloc: Global,
-    program: &Program,
-    workers: u8,
+    machine: &'m Machine,
     entries: &[Entry],
-) -> AllocResult<Vec<Traced>>
-    requires at_least_one { 1 ≤ workers }
+) -> AllocResult<Vec<Traced<'m>>>
+    requires entries { entries.now ≡ machine.now.history.entries }
+    requires numbered { Rise 0 machine.now.history.entries machine.now.history.made }
     requires few { length entries.now < 2 ^ 63 }
-    requires replayed { CanReplay (rules_of program.now workers) entries.now }
-    ensures { IfOk result (λ steps. traced steps.items ≡ replayed program.now workers entries.now) }
+    requires replayed { CanReplay (rules_for machine.now) entries.now }
+    ensures { IfOk result (λ steps. traced steps.items ≡ replayed machine.now entries.now) }
 {
     steady_rules();
     shaped_rules();
-    let mut history = History::new(alloc, started(alloc, program, workers)?);
+    let store = started(alloc, machine.program(), machine.workers())?;
+    let mut history = History::new(alloc, store);
     let mut steps = Vec::new(alloc);
     for entry in entries {
-        match traced(alloc, program, workers, &mut history, entry) {
+        match traced(alloc, machine, &mut history, entry) {
             Ok(step) => steps.push(step)?,
             Err(error) => return Err(error),
         }
@@ -56,26 +56,29 @@ fn retraced(
     Ok(steps)
 }
 
-// Makes the step of an entry again. The only error is out of memory.
-fn traced(
+// Makes the step of an entry of a machine again where a history stands. The only error is out of memory.
+fn traced<'m>(
     alloc: Global,
-    program: &Program,
-    workers: u8,
+    machine: &'m Machine,
     history: &mut History,
     entry: &Entry,
-) -> AllocResult<Traced>
-    requires held { IsHeld (rules_of program.now workers) history.old }
-    requires some { 1 ≤ workers }
+) -> AllocResult<Traced<'m>>
+    requires held { IsHeld (rules_for machine.now) history.old }
     requires few_made { (past_in history.old).made < 2 ^ 63 }
-    requires made { CanBeMade (rules_of program.now workers) history.old (label_of entry.now) }
-    ensures noted { IfOk result (IsTraced program.now workers history.old entry.now) }
-    ensures longer { OnOk result (Remakes program.now workers history.old history.new entry.now) }
+    requires made { CanBeMade (rules_for machine.now) history.old (label_of entry.now) }
+    requires touched { footprint_in machine.now entry.now.serial
+        ≡ Some (footprint_for (rules_for machine.now) history.old (label_of entry.now)) }
+    ensures noted { IfOk result (IsTraced machine.now history.old entry.now) }
+    ensures longer { OnOk result (Remakes machine.now history.old history.new entry.now) }
 {
+    let Some(footprint) = machine.footprint(entry.serial) else {
+        unreachable!()
+    };
     let label = label_of(entry);
-    let plan = planned(alloc, program, workers, history, &label)?;
-    let words = Words::of(alloc, program, history.store(), &label, &plan)?;
+    let plan = planned(alloc, machine, history, &label)?;
+    let words = Words::of(alloc, machine.program(), history.store(), &label, &plan)?;
     match remade(alloc, history, &label, plan) {
-        Ok(footprint) => {
+        Ok(()) => {
             let Spoken {
                 instruction,
                 variable,
@@ -105,55 +108,32 @@ fn label_of(entry: &Entry) -> Label
     }
 }
 
-// The plan of a label's step where a history stands. The only error is out of memory.
-fn planned(
-    alloc: Global,
-    program: &Program,
-    workers: u8,
-    history: &History,
-    label: &Label,
-) -> AllocResult<Plan>
-    requires held { IsHeld (rules_of program.now workers) history.now }
-    requires some { 1 ≤ workers }
-    ensures { IfOk result (IsPlan (rules_of program.now workers) history.now label.now) }
+// The plan of a label's step of a machine's program where a history stands. The only error is out of
+// memory.
+fn planned(alloc: Global, machine: &Machine, history: &History, label: &Label) -> AllocResult<Plan>
+    requires { IsHeld (rules_for machine.now) history.now }
+    ensures { IfOk result (IsPlan (rules_for machine.now) history.now label.now) }
 {
     low_counters();
-    plan(alloc, program, history.store(), workers, label)
+    plan(
+        alloc,
+        machine.program(),
+        history.store(),
+        machine.workers(),
+        label,
+    )
 }
 
-// The accesses of a footprint, that of its worker's control first. The only error is out of memory.
-fn listed(alloc: Global, footprint: &Footprint) -> AllocResult<Seq<Access>>
-    ensures { IfOk result (λ accesses. accesses ≡ footprint.now) }
-{
-    let (worker, others) = footprint.parts();
-    let control = Access {
-        object: Obj::Control(worker),
-        mode: Mode::Write,
-    };
-    let mut accesses = Names::new(alloc);
-    accesses.push(&control)?;
-    accesses.push_all(others)?;
-    accesses.into_seq()
-}
-
-// Takes the step of a plan, and answers what it touches. When out of memory, the history may be longer
-// or not.
-fn remade(
-    alloc: Global,
-    history: &mut History,
-    label: &Label,
-    plan: Plan,
-) -> AllocResult<Seq<Access>>
+// Takes the step of a plan. When out of memory, nothing is said of the history.
+fn remade(alloc: Global, history: &mut History, label: &Label, plan: Plan) -> AllocResult<()>
     requires few_made { (past_in history.old).made < 2 ^ 63 }
     requires planned { IsForStep history.old label.now plan }
-    ensures footprint { IfOk result (IsTouched history.old label.now plan) }
-    ensures longer { OnOk result (HasStep history.old history.new label.now plan) }
+    ensures { OnOk result (HasStep history.old history.new label.now plan) }
 {
     match plan {
         Plan::Updates(change) => {
-            let footprint = listed(alloc, &change.footprint)?;
             let _reply = history.take(alloc, label, change)?;
-            Ok(footprint)
+            Ok(())
         }
         Plan::Blocked(_) => unreachable!(),
         Plan::Ended => unreachable!(),

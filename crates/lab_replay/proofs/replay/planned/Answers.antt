@@ -1,5 +1,5 @@
 -- Fewer than 2^63 steps stand, so that no counter is above 2^63.
-use Rattle.std.proofs.Common.{arith, ◌^◌, List, IfOk}
+use Rattle.std.proofs.Common.{◌≡◌, subst, arith, ◌^◌, List, IfOk}
 use Rattle.std.specs.Prelude.{map, Result, Ok, Err}
 use Rattle.std.proofs.lemmas.List.{length-map}
 use Rattle.om_memory.specs.Memories.{state_of}
@@ -8,6 +8,7 @@ use Rattle.om_task.specs.Rules.{rules_of}
 use Rattle.om_undo_history.specs.declared.records.UndoRecord.{UndoRecord}
 use Rattle.om_undo_history.specs.Runs.{label_of}
 use Rattle.om_undo_history.specs.Pasts.{past_in, history_in}
+use Rattle.om_undo.specs.Machines.{PlansAt, rules_for}
 use Rattle.lab_replay.proofs.Replays.{is_plan}
 use Rattle.lab_replay.proofs.replay.planned.Goals as goal
 
@@ -21,19 +22,23 @@ pub plan-requires-clause-counters : goal.plan-requires-clause-counters
 plan-requires-clause-counters c =
     let records : List UndoRecord = (past_in c.args.history.now).records in
     let es : List Entry = (history_in c.args.history.now).entries in
-    c.low_counters.ensures c.args.program.now c.args.workers (2 ^ 63) (map label_of es) (state_of c.store.result.now)
-    (c.store.ensures.replayed (rules_of c.args.program.now c.args.workers) c.requires.held)
+    c.low_counters.ensures c.args.machine.now.program c.args.machine.now.workers (2 ^ 63) (map label_of es) (state_of c.store.result.now)
+    (c.store.ensures.replayed (rules_for c.args.machine.now) c.requires)
     (omega (
       arith,
-      c.requires.held.past.few,
-      c.requires.held.few_made,
+      c.requires.past.few,
+      c.requires.few_made,
       length-map es label_of,
       length-map records
           (λ (k : UndoRecord). k.entry),
     ))
 
 pub returns : goal.returns
-returns c = both_ok c.plan.result _ _ _
-    (λ p is room. is_plan (rules_of c.args.program.now c.args.workers) c.args.history.now c.args.label.now
-    (state_of c.store.result.now) p c.requires.held c.store.ensures.state c.store.ensures.replayed is room)
+returns c =
+    let rules : rules_of c.program.result.now c.workers.result ≡ rules_for c.args.machine.now =
+    λ i. rules_of (c.program.ensures i) (c.workers.ensures.same i) in
+    both_ok c.plan.result _ _ _
+    (λ p is room. is_plan (rules_for c.args.machine.now) c.args.history.now c.args.label.now
+    (state_of c.store.result.now) p c.requires c.store.ensures.state c.store.ensures.replayed
+    (subst (λ r. PlansAt r c.args.label.now (state_of c.store.result.now) p) rules is) room)
     c.plan.ensures.plan c.plan.ensures.room

@@ -2,20 +2,22 @@ use Rattle.std.proofs.Common.{◌≡◌, sym, ◌∙◌, ap, subst, ℕ, suc, �
 use Rattle.std.specs.Prelude.{map}
 use Rattle.om_state.specs.declared.step.Entry.{Entry}
 use Rattle.om_state.specs.Rules.{Rules, replay}
-use Rattle.om_task.specs.Rules.{rules_of}
+use Rattle.om_task.specs.Rules.{start_of}
 use Rattle.om_undo_history.specs.Runs.{label_of}
 use Rattle.om_undo_history.specs.Records.{entries_of}
 use Rattle.om_undo_history.specs.Pasts.{Past}
-use Rattle.lab_graph.specs.declared.sketch.Traced.{Traced}
+use Rattle.om_undo.specs.Machines.{rules_for}
+use Rattle.lab_graph.specs.declared.traced.Traced.{Traced}
 use Rattle.lab_replay.specs.Traces.{transition_of, IsRemade}
-use Rattle.lab_replay.proofs.Replays.{can_be_made, remade_more, split_at, taken_more}
+use Rattle.lab_replay.proofs.Replays.{can_be_made, remade_more, split_at, taken_more, touched_is}
 use Rattle.lab_replay.proofs.replay.retraced.Goals as goal
 
 pub loop-entry-init : goal.loop-entry-init
 loop-entry-init c = record {
-  held = c.new-history.ensures.held (rules_of c.args.program.now c.args.workers)
-      (c.steady_rules.ensures c.args.program.now c.args.workers)
-      (c.shaped_rules.ensures c.args.program.now c.args.workers) (sym c.in_ok-started.ensures);
+  held = c.new-history.ensures.held (rules_for c.args.machine.now)
+      (c.steady_rules.ensures c.args.machine.now.program c.args.machine.now.workers)
+      (c.shaped_rules.ensures c.args.machine.now.program c.args.machine.now.workers)
+      (sym (c.in_ok-store.ensures ∙ (λ i. start_of (c.program.ensures i) (c.workers.ensures.same i))));
   labels = ap (λ (p : Past). map label_of (entries_of p.records)) c.new-history.ensures.past;
   made = ap (λ (p : Past). p.made) c.new-history.ensures.past;
   noted = ap (λ (ts : List Traced). map transition_of ts) c.new-steps.ensures.items;
@@ -23,7 +25,7 @@ loop-entry-init c = record {
 
 pub traced-requires-clause-made : goal.traced-requires-clause-made
 traced-requires-clause-made c =
-    let r : Rules = rules_of c.args.program.now c.args.workers in
+    let r : Rules = rules_for c.args.machine.now in
     let es : List Entry = c.args.entries.now in
     let i : ℕ = c.loop-entry.entry-index in
     let less : i < length es = omega arith in
@@ -32,9 +34,19 @@ traced-requires-clause-made c =
     (ap (λ (l : List Entry). replay r (map label_of l)) (sym (split_at es i c.entry-item.result less c.entry-item.is))
     ∙ c.requires.replayed.1)
 
+pub traced-requires-clause-touched : goal.traced-requires-clause-touched
+traced-requires-clause-touched c =
+    let es : List Entry = c.args.entries.now in
+    let i : ℕ = c.loop-entry.entry-index in
+    let less : i < length es = omega arith in
+    touched_is c.args.machine.now c.loop-entry.history (take i es) c.loop-entry.steps.items c.entry-item.result
+    (drop (suc i) es)
+    (sym c.requires.entries ∙ split_at es i c.entry-item.result less c.entry-item.is) c.requires.numbered
+    c.loop-entry.invariant
+
 pub loop-entry-preserved : goal.loop-entry-preserved
 loop-entry-preserved c =
-    let r : Rules = rules_of c.args.program.now c.args.workers in
+    let r : Rules = rules_for c.args.machine.now in
     let es : List Entry = c.args.entries.now in
     let i : ℕ = c.loop-entry.entry-index in
     let e : Entry = c.entry-item.result in
