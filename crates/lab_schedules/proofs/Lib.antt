@@ -1,2 +1,4 @@
 pub mod Texts
+pub mod Moves
 pub mod Undone
+pub mod Judging

@@ -1,3 +1,2 @@
 mod HeadLaws
-mod ReadLaws
 mod TailLaws

@@ -1,5 +1,4 @@
 pub mod Commands
 pub mod Heads
-pub mod Sessions
 pub mod Tails
 pub mod Unended
