@@ -6,7 +6,7 @@ ghost use Rattle.om_shell_commands.specs.Lists.{joined, roll_text};
 ghost use Rattle.lab_script.specs.Cones.{cone_line, cone_text, IsConeOf};
 ghost use Rattle.lab_script.specs.Sessions.{IsConeIn, IsConeOver};
 
-use crate::run::{Heard, Script, ScriptFault, Session, hear, session_in};
+use crate::run::{Heard, Ran, Script, ScriptFault, Session, hear, session_in};
 use om_book::Book;
 use om_seq::AllocResult;
 use om_shell::{Options, read_all};
@@ -52,12 +52,13 @@ fn cone_of<H: Threads + Wait + Sync>(
     ensures { IfOk result (IsConeOver workers session.entry.bytes serial) }
 {
     let Heard { ran, turned_down } = hear(rt, alloc, workers, session)?;
-    match ran.book {
+    let Ran { text, book } = ran;
+    match book {
         Some(book) => {
             let lines = cone_in(alloc, book, serial)?;
             Ok(Script::Steps { lines, turned_down })
         }
-        None => Ok(Script::Refused(ran.text)),
+        None => Ok(Script::Refused(text)),
     }
 }
 

@@ -59,7 +59,8 @@ fn script_of<H: Threads + Wait + Sync>(
     ensures { IfOk result (IsScriptOver workers session.entry.bytes) }
 {
     let Heard { ran, turned_down } = hear(rt, alloc, workers, session)?;
-    match ran.book {
+    let Ran { text, book } = ran;
+    match book {
         Some(book) => {
             let steps = steps_of(alloc, book)?;
             if !leads_to(rt, alloc, workers, session.bytes.source, &steps)? {
@@ -68,7 +69,7 @@ fn script_of<H: Threads + Wait + Sync>(
             let lines = steps.text;
             Ok(Script::Steps { lines, turned_down })
         }
-        None => Ok(Script::Refused(ran.text)),
+        None => Ok(Script::Refused(text)),
     }
 }
 
