@@ -2,7 +2,7 @@
 //!
 //! - `journal` has the records (`JournalRecord`), and what is asked for before a call. `command`, `reply` and
 //!   `replies` have the calls and their answers; `replies` makes a machine's reply once or three times.
-//!   `kept` has small forms of them.
+//!   `kept` has small forms of them, and `entry` of entries.
 //! - `Same` is the question whether two values are the same. `same` answers it for numbers, options and
 //!   lists, `event` for event records, and `value` for what objects hold.
 //! - `specs/Growing` says what one more record leaves, and `RunLeft` that a journal leaves a run. They are
@@ -10,6 +10,7 @@
 #![tactic(auto)]
 
 mod command;
+mod entry;
 mod event;
 mod journal;
 mod kept;
@@ -19,6 +20,7 @@ mod same;
 mod value;
 
 pub use command::{Command, Query};
+pub use entry::KeptEntry;
 pub use journal::{Asked, JournalRecord, ReplyIn, done_in};
 pub use kept::{KeptCommand, KeptUndoReply, UndoneStep};
 pub use reply::Reply;

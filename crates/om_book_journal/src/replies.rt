@@ -4,10 +4,13 @@
 ghost use Rattle.std.specs.Prelude.{◌≡◌, ◌<◌, ◌^◌, IfOk, IfSome, IsNone, OnOk, OnErr, true};
 ghost use Rattle.om_book_journal.specs.Kept.{is_conflict};
 ghost use Rattle.om_book_journal.specs.Runs.{IsInRange, IsReply, after, answer_to};
+ghost use Rattle.om_undo.specs.ReadyNames.{ready_names};
 
 use crate::command::{Command, Query};
+use crate::entry::kept_entries;
 use crate::kept::KeptUndoReply;
 use crate::reply::Reply;
+use om_foot::{Name, Shared};
 use om_seq::{AllocResult, Seq};
 use om_undo::laws::{one_ready_list, ready_names_are_ready};
 use om_undo::{Machine, PlannedStep, RollReply, StepReply, Taken, UndoReply};
@@ -192,11 +195,47 @@ fn two_copies(alloc: Global, reply: &Reply) -> AllocResult<(Reply, Reply)>
 fn looked(alloc: Global, machine: &Machine, query: &Query) -> AllocResult<Reply>
     ensures { IfOk result (λ x. x ≡ answer_to machine.now query.now) }
 {
-    one_ready_list();
-    ready_names_are_ready();
     match query {
         Query::Value(object) => Ok(Reply::Value(machine.look(alloc, object)?)),
-        Query::Ready => Ok(Reply::Ready(Seq::of(machine.ready(alloc)?))),
-        Query::Entries => Ok(Reply::Entries(Seq::of(machine.history(alloc)?))),
+        Query::Ready => names_told(alloc, machine),
+        Query::FirstReady => Ok(Reply::FirstReady(shared_name(alloc, machine.next_ready(None))?)),
+        Query::Entries => entries_told(alloc, machine),
+    }
+}
+
+// Answers which entries stand.
+fn entries_told(alloc: Global, machine: &Machine) -> AllocResult<Reply>
+    ensures { IfOk result (λ x. x ≡ Reply.Entries machine.now.history.entries) }
+{
+    let entries = machine.history(alloc)?;
+    let kept = kept_entries(alloc, entries.as_slice())?;
+    Ok(Reply::Entries(Shared::of(alloc, kept)?))
+}
+
+// Answers which tasks are ready.
+fn names_told(alloc: Global, machine: &Machine) -> AllocResult<Reply>
+    ensures { IfOk result (λ x. x ≡ Reply.Ready (ready_names machine.now)) }
+{
+    let names = ready_list(alloc, machine)?;
+    Ok(Reply::Ready(Shared::of(alloc, names)?))
+}
+
+// The names of the tasks that are ready. Its only error is out of memory.
+fn ready_list(alloc: Global, machine: &Machine) -> AllocResult<Seq<Name>>
+    ensures { IfOk result (λ names. names ≡ ready_names machine.now) }
+{
+    one_ready_list();
+    ready_names_are_ready();
+    let names = machine.ready(alloc)?;
+    Ok(Seq::of(names))
+}
+
+// A name to be shared, where there is one. Its only error is out of memory.
+fn shared_name(alloc: Global, first: Option<Name>) -> AllocResult<Option<Shared<Name>>>
+    ensures { IfOk result (λ name. name ≡ first) }
+{
+    match first {
+        Some(name) => Ok(Some(Shared::of(alloc, name)?)),
+        None => Ok(None),
     }
 }
