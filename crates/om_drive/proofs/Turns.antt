@@ -1,18 +1,14 @@
 -- Calls in turn, one after the other.
 use Rattle.std.specs.Prelude.{◌≡◌, ◌+◌, ℕ, zero, suc, Bool, true, false, cond, nat_eq, refl}
-use Rattle.std.specs.Prelude.{List, [], ◌∷◌, ◌++◌, map, drop, length}
+use Rattle.std.specs.Prelude.{List, [], ◌∷◌, ◌++◌, map, drop, length, Result, OnOk, OnErr}
 use Rattle.std.proofs.Common.{◌∙◌, ◌⊎◌, ap, subst, sym, arith, append-nil, append_assoc, inl, inr, true≢false, eqb-true}
 use Rattle.std.proofs.Common.{eq-eqb}
 use Rattle.std.specs.List.{AllByRecursion}
 use Rattle.std.proofs.lemmas.List.Elements.{recursion_from_All}
 use Rattle.std.proofs.lemmas.List.{map-append}
-use Rattle.om_undo_history.specs.declared.reply.StepReply.TheVariants as step_reply
-use Rattle.om_state.specs.declared.step.Choice.TheVariants as choice
-use Rattle.om_book_journal.specs.Runs.{is_step_made}
+use Rattle.std.proofs.lemmas.Result.{on_ok_weaker, on_err_weaker}
 use Rattle.om_book_journal.specs.declared.command.Command.{Command}
-use Rattle.om_book_journal.specs.declared.command.Command.TheVariants as command
 use Rattle.om_book_journal.specs.declared.reply.Reply.{Reply}
-use Rattle.om_book_journal.specs.declared.reply.Reply.TheVariants as reply
 use Rattle.om_book_journal.specs.Records.{JournalRecord}
 use Rattle.om_book.specs.Seats.{SeatView, seats_below}
 use Rattle.om_book.specs.Standing.{calls_of, number_of, Covers, IsSeat}
@@ -20,19 +16,8 @@ use Rattle.om_book.specs.declared.receipt.Receipt.{Receipt}
 use Rattle.om_drive.specs.Calls.{AddsReceipt}
 use Rattle.om_drive.specs.OwnCalls.{receipts_of}
 use Rattle.om_drive.proofs.OwnCalls.{AreNumbered, numbered_below, AreNone, none_last}
-use Rattle.om_drive.specs.Turns.{waits, next_step, ready_question, call_after, AreInTurn, call_after_all, GoesInTurn}
-use Rattle.om_drive.specs.Turns.{MakesRound, RunsInTurn, EachRunsInTurn}
-
--- a step that was made does not wait
-pub made_waits : (x : Reply) → is_step_made x ≡ true → waits x ≡ false
-made_waits (reply.Step (step_reply.Done serial line fault)) e = refl
-made_waits (reply.Step (step_reply.Blocked why)) e = cc
-made_waits (reply.Step step_reply.Ended) e = cc
-made_waits (reply.Undo x) e = cc
-made_waits (reply.Roll x) e = cc
-made_waits (reply.Value x) e = cc
-made_waits (reply.Ready names) e = cc
-made_waits (reply.Entries entries) e = cc
+use Rattle.om_drive.specs.Turns.{waits, next_step, ready_question, call_after, AreInTurn}
+use Rattle.om_drive.specs.Turns.{call_after_all, GoesInTurn, MakesRound, RunsInTurn, EachRunsInTurn}
 
 turn_append : (worker : ℕ) (next : Command) (xs ys : List Receipt) → AreInTurn worker next xs
     → AreInTurn worker (call_after_all worker next xs) ys → AreInTurn worker next (xs ++ ys)
@@ -51,9 +36,6 @@ joined old mid new xs ys e f = f ∙ ap (λ l. l ++ ys) e ∙ append_assoc old x
 -- no call
 pub no_turn : (worker : ℕ) (next : Command) (old : List Receipt) → GoesInTurn worker next old old
 no_turn worker next old = record { calls = []; more = sym (append-nil old); in_turn = tt }
-
-pub no_round : (worker : ℕ) (old : List Receipt) → MakesRound worker (next_step worker) old old
-no_round worker old = record { calls = []; more = sym (append-nil old); in_turn = tt; over = refl }
 
 pub round_in_turn : (worker : ℕ) (next : Command) (old new : List Receipt) → MakesRound worker next old new
     → GoesInTurn worker next old new
@@ -101,16 +83,27 @@ first_then_round worker first next x old mid new p e q =
       over = ap (λ c. call_after_all worker c q.calls) e ∙ q.over;
     }
 
--- one call that ends a round
-pub one_round : (worker : ℕ) (first : Command) (x : Reply) (old new : List Receipt) → AddsReceipt old new first x
-    → call_after worker first x ≡ next_step worker → MakesRound worker first old new
-one_round worker first x old new p e = first_then_round worker first (next_step worker) x old new new p e
-    (no_round worker new)
-
--- a step that does not wait
+-- what comes after the worker's next step
 pub stepped : (worker : ℕ) (x : Reply) (b : Bool) → waits x ≡ b → call_after worker (next_step worker) x
     ≡ cond b ready_question (next_step worker)
 stepped worker x b e = rw e refl
+
+-- it waits for tasks, and the first that is ready is started
+pub waits_round : {E : Type 0} (result : Result Bool E) (worker : ℕ) (old mid new : List Receipt) (x : Reply)
+    (wait : Bool) → AddsReceipt old mid (next_step worker) x → wait ≡ waits x → wait ≡ true
+    → OnOk result (MakesRound worker ready_question mid new)
+    → OnOk result (MakesRound worker (next_step worker) old new)
+waits_round result worker old mid new x wait p e is h =
+    on_ok_weaker result (λ q. first_then_round worker (next_step worker) ready_question x old mid new p
+    (stepped worker x true (sym e ∙ is)) q) h
+
+pub waits_turn : {E : Type 0} (result : Result Bool E) (worker : ℕ) (old mid new : List Receipt) (x : Reply)
+    (wait : Bool) → AddsReceipt old mid (next_step worker) x → wait ≡ waits x → wait ≡ true
+    → OnErr result (GoesInTurn worker ready_question mid new)
+    → OnErr result (GoesInTurn worker (next_step worker) old new)
+waits_turn result worker old mid new x wait p e is h =
+    on_err_weaker result (λ q. first_then worker (next_step worker) ready_question x old mid new p
+    (stepped worker x true (sym e ∙ is)) q) h
 
 each_last : (worker : ℕ) (olds news : List (List Receipt)) (old new : List Receipt)
     → EachRunsInTurn worker olds news → RunsInTurn (worker + length olds) old new

@@ -41,11 +41,11 @@ pub struct Count {
 /// closes it. Their calls are added to the journal: of each its own steps, and its questions which
 /// tasks are ready.
 ///
-/// Without an error each call that was added is a worker's own, and the calls of each worker are in turn
-/// (`call_after`): its next step. Where that waits at a barrier or for tasks (B1, B3, B8), it asks which
-/// tasks are ready, and then starts the first of them, if there is one. `AllocError` stands for three
-/// things: no memory, no thread, or a receipt that does not stand. Then the book still has only legal
-/// records more (`goes_on`), but of whom they are is not said.
+/// Without an error each call that was added is a worker's own, and the calls of each worker are in
+/// turn (`call_after`): its next step. Where that waits at a barrier or for tasks (B1, B3, B8), it
+/// asks which tasks are ready, and then starts the first of them, if there is one. `AllocError`
+/// stands for three things: no memory, no thread, or a receipt that does not stand. Then the book
+/// still has only legal records more (`goes_on`), but of whom they are is not said.
 pub fn run_freely<R: Threads + Wait + Sync>(
     book: &mut Book,
     errand: Errand<'_, R>,

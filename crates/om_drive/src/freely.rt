@@ -34,9 +34,9 @@ pub struct Freed<L: Sitting> {
 ///
 /// In each of its rounds a worker makes its next step. Where that waits at a barrier or for tasks,
 /// it asks which tasks are ready and starts the first. A worker goes on after a step that is not
-/// made, and stops where the journal is full. So each seat gains own calls of its worker alone, in the
-/// order that `call_after` gives, and keeps those that it had. How many rounds they make is not promised.
-/// The seats always come back in their places.
+/// made, and stops where the journal is full. So each seat gains own calls of its worker alone, in
+/// the order that `call_after` gives, and keeps those that it had. How many rounds they make is not
+/// promised. The seats always come back in their places.
 pub fn free<L: Sitting + Send + Sync, G: Gate + Drop + Send, R: Threads + Wait + Sync>(
     session: &Session<L>,
     rt: &R,

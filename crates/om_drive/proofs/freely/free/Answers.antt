@@ -9,6 +9,7 @@ use Rattle.om_drive.proofs.OwnCalls.{seated_calls}
 use Rattle.om_drive.proofs.Places.{numbers_same}
 use Rattle.om_drive.proofs.Sent.{sitter_send}
 use Rattle.om_drive.proofs.Stepping.{seated_steps}
+use Rattle.om_drive.proofs.Turns.{each_same}
 use Rattle.om_drive.proofs.freely.free.Goals as goal
 
 -- a seat beside its session may go to another thread
@@ -63,3 +64,6 @@ returns-clause-in_turn g c =
     subst (λ olds. EachRunsInTurn 0 olds (map receipts_of c.stand_up.new.seats.items)) before
     (subst (λ news. EachRunsInTurn 0 (map (λ s. s.seat.receipts) sitting) news) (sym after)
     c.free_over-sitters.ensures.in_turn)
+
+pub returns-in_default-clause-in_turn : goal.returns-in_default-clause-in_turn
+returns-in_default-clause-in_turn g c = each_same 0 _
