@@ -3,7 +3,7 @@
 use crate::beginnings::add_beginnings;
 use crate::checks::{add_checks, call_laws};
 use crate::sessions::add_session;
-use crate::stage::{Stage, refusal, stage_of};
+use crate::stage::{Stage, case_refusal, stage_of};
 use crate::written::{cut, divider, parts, write_out};
 use om_lexer::{FaultCode, SourceFault};
 use om_seq::AllocResult;
@@ -72,7 +72,7 @@ fn add_section<R: Threads + Wait + Sync>(
     }
 }
 
-/// Judges the sources of a table. Behind those that are judged wrongly it adds the head of the section, with
+/// Judges the sources of a table. After those that are judged wrongly it adds the head of the section, with
 /// the count of its sources.
 pub(crate) fn add_table(
     alloc: Global,
@@ -111,7 +111,7 @@ fn add_case(alloc: Global, report: &mut Report, stage: Stage, case: &str) -> All
 // What the front end says of a source: `accepted`, or the refusal, as `S3 1:36`. Being out of memory is no
 // verdict.
 fn verdict(alloc: Global, stage: Stage, source: &str) -> AllocResult<String> {
-    match refusal(alloc, stage, source.as_bytes()) {
+    match case_refusal(alloc, stage, source.as_bytes()) {
         Some(fault) if fault.code == FaultCode::Memory => Err(AllocError),
         Some(fault) => refusal_text(alloc, source, fault),
         None => String::from_str(alloc, "accepted"),

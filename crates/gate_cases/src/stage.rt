@@ -21,7 +21,7 @@ pub(crate) enum Stage {
     Line,
     /// To its tree.
     Parser,
-    /// To its resolution, behind which no rule on names, values and directives is broken.
+    /// To its resolution, after which no rule on names, values and directives is broken.
     Resolver,
     /// To its code, which is within its limits.
     Code,
@@ -39,8 +39,8 @@ pub(crate) fn stage_of(word: &str) -> Option<Stage> {
     })
 }
 
-/// The refusal of a source on its way to the end of a stage; `None` where it is accepted.
-pub(crate) fn refusal(alloc: Global, stage: Stage, source: &[u8]) -> Option<SourceFault> {
+/// The refusal of a case's source on its way to the end of a stage; `None` where it is accepted.
+pub(crate) fn case_refusal(alloc: Global, stage: Stage, source: &[u8]) -> Option<SourceFault> {
     match stage {
         Stage::Lexer => lex(alloc, source).err(),
         Stage::Line => line_refusal(alloc, source),

@@ -1,4 +1,4 @@
-//! Commands and answers: a line becomes a command, and each reply text, to the byte; which cells are printed.
+//! Commands and answers: a line becomes a command, and each reply text, to the byte; cells of globals to print.
 //!
 //! - `request_of` answers the `Request` of a line: a `Command`, or why it is none (`CommandFault`, H1 or H2).
 //!   `verb` names the first word, `arguments` reads the others: numbers, workers, names of tasks, variables.
