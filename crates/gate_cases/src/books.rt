@@ -34,7 +34,7 @@ pub(crate) fn full_book_has_two_steps<R: Threads + Wait + Sync>(
     Ok(has_both && book.journal().len() == 200_000)
 }
 
-/// Whether a free run's calls are in the book with those before and behind it: each of two workers
+/// Whether a free run's calls are in the book with those before and after it: each of two workers
 /// makes eight rounds, and each round is one call.
 pub(crate) fn book_has_a_free_run<R: Threads + Wait + Sync>(
     rt: &R,

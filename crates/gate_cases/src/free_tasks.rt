@@ -7,7 +7,7 @@ use std::alloc::Global;
 use std::sync::Wait;
 use std::thread::Threads;
 
-// A program that makes 188 steps in all, whoever makes them. Behind each free run at least one
+// A program that makes 188 steps in all, whoever makes them. After each free run at least one
 // more of its waits has ended: so ten suffice, in whatever order the workers come.
 const SESSION: &str = fibonacci!(
     4,

@@ -85,7 +85,7 @@ impl Outcome {
         matches!(self.status, Ok(0)) && self.text.as_slice() == output.as_bytes()
     }
 
-    /// Whether the session was broken off by this fault, behind a beginning of what is to be written.
+    /// Whether the session was broken off by this fault, after a beginning of what is to be written.
     pub(crate) fn is_broken_off(&self, fault: ShellFault, output: &str) -> bool {
         let begun = output.as_bytes().starts_with(self.text.as_slice());
         begun && matches!(self.status, Err(met) if met == fault)

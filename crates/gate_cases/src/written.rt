@@ -24,7 +24,7 @@ pub(crate) fn parts(case: &str) -> (&str, &str) {
     case.split_once(" => ").unwrap_or((case, "accepted"))
 }
 
-/// What stands before and behind a character; nothing behind, where a text does not have it.
+/// What stands before and after a character; nothing after it, where a text does not have it.
 pub(crate) fn cut(text: &str, mark: char) -> (&str, &str) {
     text.split_once(mark).unwrap_or((text, ""))
 }

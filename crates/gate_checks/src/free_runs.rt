@@ -1,4 +1,4 @@
-//! Free runs of programs of tasks, one behind the other, until the programs have ended.
+//! Free runs of programs of tasks, one after the other, until the programs have ended.
 
 use crate::driven::two_gates;
 use crate::machine_of_two::{BookOfTwo, Lengths};
@@ -36,7 +36,7 @@ const FIBONACCI_STEPS: u64 = 188;
 // start and TEND.
 const TASKS_STEPS: u64 = 14;
 
-// How many free runs there are. Behind each at least one more of a program's waits has ended: so they suffice, in
+// How many free runs there are. After each at least one more of a program's waits has ended: so they suffice, in
 // whatever order the workers come.
 const RUNS: u32 = 10;
 
@@ -69,7 +69,7 @@ fn runs_end<R: Threads + Wait + Sync>(
     Ok(made == steps)
 }
 
-// Lets both workers of a book run freely. The book behind it, and how many steps were made; `None` where these are
+// Lets both workers of a book run freely. The book after it, and how many steps were made; `None` where these are
 // told wrongly.
 fn run_once<R: Threads + Wait + Sync>(
     rt: &R,

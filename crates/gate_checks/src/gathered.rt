@@ -35,7 +35,7 @@ fn takes_all<R: Wait>(rt: &R, alloc: Global) -> AllocResult<bool> {
     Ok(gathered.fault.is_none() && are_answers(gathered.answers.as_slice(), &[7, 8]))
 }
 
-// Whether an answer is taken, and a channel behind it whose other end was dropped is V2.
+// Whether an answer is taken, and a channel after it whose other end was dropped is V2.
 fn tells_closed<R: Wait>(rt: &R, alloc: Global) -> AllocResult<bool> {
     let (sender, receiver) = bounded(alloc, 1)?;
     drop(sender);
@@ -47,7 +47,7 @@ fn tells_closed<R: Wait>(rt: &R, alloc: Global) -> AllocResult<bool> {
     )
 }
 
-// Whether an answer is taken, and one behind it of a strange number is V1.
+// Whether an answer is taken, and one after it of a strange number is V1.
 fn tells_strange<R: Wait>(rt: &R, alloc: Global) -> AllocResult<bool> {
     let receivers = [sent(rt, alloc, 7)?, sent(rt, alloc, 9)?];
     let gathered = gather(rt, alloc, &receivers, &[7, 8]);

@@ -87,7 +87,7 @@ while (1) if (omp_get_thread_num() == 0) a = a + 1; else b = b + 1;
 }
 ";
 
-// How many steps each worker makes behind the fork.
+// How many steps each worker makes after the fork.
 const STEPS: u32 = 50_000;
 
 /// Whether 100,000 steps are made and one worker's half of them is undone: each undo names its step, and that of the
@@ -104,7 +104,7 @@ pub(crate) fn long_history_is_undone(alloc: Global) -> AllocResult<bool> {
     Ok(undone && holds(alloc, &machine, 0, 0)? && holds(alloc, &machine, 1, 4545)?)
 }
 
-// Whether each step of worker 0 behind the fork is undone, from #50001 back to #2.
+// Whether each step of worker 0 after the fork is undone, from #50001 back to #2.
 fn are_undone(machine: &mut MachineOfTwo) -> bool {
     for step in 0..STEPS {
         let wanted = u64::from(STEPS - step) + 1;

@@ -41,7 +41,7 @@ pub fn front_of(source: &[u8], at: u32) -> &[u8]
     }
 }
 
-/// The line of the byte behind these, from 1.
+/// The line of the byte after these, from 1.
 pub fn line_behind(front: &[u8]) -> usize
     ensures { result ≡ line_after front.now }
 {

@@ -75,7 +75,7 @@ impl<H: Threads + Wait + Sync> Host<'_, H> {
         }
     }
 
-    /// Serves a source and the commands behind it.
+    /// Serves a source and the commands after it.
     ///
     /// When out of memory for its program, nothing is read or written.
     pub(crate) fn serve<R: Read, W: Write>(

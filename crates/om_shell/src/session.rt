@@ -103,7 +103,7 @@ impl<'a, R: Threads + Wait + Sync> Session<'a, R> {
             .answer(self.rt, self.alloc, line, &mut self.answer)
     }
 
-    // Answers one line, behind the answers that are not written yet. Says whether the session is over.
+    // Answers one line, after the answers that are not written yet. Says whether the session is over.
     fn follow(&mut self, line: &[u8]) -> AllocResult<bool>
         ensures answered { IfOk result
             (λ quits. (said : List ℕ) × (self.new.text.items ≡ self.old.text.items ++ said)

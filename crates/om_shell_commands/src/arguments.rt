@@ -1,4 +1,4 @@
-//! The words behind the first one: numbers, workers, names of tasks and variables.
+//! The words after the first one: numbers, workers, names of tasks and variables.
 
 ghost use Rattle.std.specs.Prelude.{◌≡◌, ◌==◌, ◌<◌, map, position, length, IfOk, IfSome};
 ghost use Rattle.om_shell_commands.specs.Arguments.{number_of, worker_of, parts_of, task_of, task_behind, variable_of, indexed, index_of, one_worker, one_number, one_count, one_variable};
@@ -102,7 +102,7 @@ pub(crate) fn task(alloc: Global, word: &[u8]) -> AllocResult<Option<Name>>
     Ok(task_behind(Name::empty(), &parts))
 }
 
-// The index that stands behind a `[` and before the `]` that ends a word.
+// The index that stands after a `[` and before the `]` that ends a word.
 fn index(rest: &[u8]) -> Option<u64>
     ensures { result ≡ index_of rest.now }
 {

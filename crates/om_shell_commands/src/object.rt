@@ -40,7 +40,7 @@ pub(crate) fn push_object(text: &mut Vec<u8>, program: &Program, object: &Obj) -
     }
 }
 
-/// Appends bytes, and behind them a name.
+/// Appends bytes, and after them a name.
 pub(crate) fn push_named(text: &mut Vec<u8>, kind: &[u8], name: &Name) -> AllocResult<()>
     ensures { OnOk result (text.new.items ≡ text.old.items ++ (kind.now ++ name_text name.now)) }
 {

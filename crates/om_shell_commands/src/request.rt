@@ -25,7 +25,7 @@ fn words(alloc: Global, line: &[u8]) -> AllocResult<Vec<&[u8]>>
         .collect(alloc)
 }
 
-// `start`, with the words behind it.
+// `start`, with the words after it.
 fn start(alloc: Global, workers: u8, words: &[&[u8]]) -> AllocResult<Option<Command>>
     ensures asked { IfOk result
         (λ command. command ≡ start_of workers (spelled words.now)) }
@@ -44,7 +44,7 @@ fn start(alloc: Global, workers: u8, words: &[&[u8]]) -> AllocResult<Option<Comm
     Ok(Some(Command::Start { worker, task }))
 }
 
-// `print`, with the words behind it.
+// `print`, with the words after it.
 fn print(alloc: Global, workers: u8, words: &[&[u8]]) -> AllocResult<Option<Command>>
     ensures asked { IfOk result
         (λ command. command ≡ print_of workers (spelled words.now)) }
@@ -71,7 +71,7 @@ fn alone(command: Command, words: &[&[u8]]) -> Option<Command>
     words.is_empty().then_some(command)
 }
 
-// What a verb asks for with the words behind it; `None` where they are not what it takes.
+// What a verb asks for with the words after it; `None` where they are not what it takes.
 fn command_by(
     alloc: Global,
     verb: Verb,

@@ -122,7 +122,7 @@ pub fn push_full(text: &mut Vec<u8>) -> AllocResult<()>
     text.extend_from_slice(b"full\n")
 }
 
-/// More bytes than a step takes, with words before it and a fault behind it.
+/// More bytes than a step takes, with words before it and a fault after it.
 pub(crate) const ROOM: usize = 128;
 
 /// Puts bytes before those from `end` on, and answers where they begin.

@@ -22,7 +22,7 @@ pub fn push_number<I: Integer>(text: &mut Vec<u8>, number: I) -> AllocResult<()>
     text.extend_from_slice(buffer.format(number).as_bytes())
 }
 
-/// Appends bytes, and behind them a number in decimal.
+/// Appends bytes, and after them a number in decimal.
 pub fn push_numbered<I: Integer>(text: &mut Vec<u8>, before: &[u8], number: I) -> AllocResult<()>
     ensures { OnOk result (text.new.items ≡ text.old.items ++ (before.now ++ I.text number)) }
 {

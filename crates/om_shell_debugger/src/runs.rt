@@ -140,7 +140,7 @@ enum Moved {
     NoMove,
     // There is no room to record it.
     Full,
-    // It was made, and the run stops behind it.
+    // It was made, and the run stops after it.
     Stopped(Stop),
     // It was made, and the run goes on.
     GoesOn,

@@ -1,4 +1,4 @@
-//! Why a run stops behind a step.
+//! Why a run stops after a step.
 
 ghost use Rattle.std.specs.Prelude.{◌≡◌, ◌<◌, ◌≤◌, nat_le, map, IfOk, OnOk};
 ghost use Rattle.om_undo.specs.Machines.{state_in};
@@ -122,7 +122,7 @@ fn or_else(first: Option<Stop>, second: Option<Stop>) -> Option<Stop>
     }
 }
 
-/// Takes a step that was planned where the book stands, and answers why a run stops behind it, if it does.
+/// Takes a step that was planned where the book stands, and answers why a run stops after it, if it does.
 pub(crate) fn step_and_stop(
     alloc: Global,
     book: &mut Book,
