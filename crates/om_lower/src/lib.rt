@@ -1,4 +1,4 @@
-//! Lowering: puts the code of statements, regions and bodies together, within limits; makes the program and its texts.
+//! Lowering: writes worksharing loops and `sections`; puts statements, regions and bodies together; makes the program.
 //!
 //! `lower` turns a `Resolved` into a `Program`. The code is that of om_lower_rules, with a line for each
 //! instruction, the scopes of its names, and the name of its function. The first function that passes a limit

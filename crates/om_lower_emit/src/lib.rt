@@ -1,4 +1,4 @@
-//! Lowering: writes code for expressions, tests, declarations, clauses, jumps, ends of loops and constructs; scopes.
+//! Lowering: writes code for expressions, declarations, clauses, jumps, `if`, C's loops and constructs.
 //!
 //! om_lower has the recursion over statements, and the begins and ends of worksharing loops and `sections`. A
 //! construct with a statement in it is written by a begin, the statement and an end. The begin makes the

@@ -1,5 +1,5 @@
-//! What the choice of a worker names, what comes of it, and the plan of its step. No program calls `names`
-//! and `effect`: `plan` gives both.
+//! What the choice of a worker names, what comes of it, and the plan of its step. `plan` gives both to a
+//! machine. `names` and `effect` are for tools that ask for one of them alone.
 
 ghost use Rattle.std.specs.Prelude.{◌≡◌, ◌≤◌, ◌^◌, IfOk};
 ghost use Rattle.om_foot.specs.declared.object.Obj.TheVariants as obj;

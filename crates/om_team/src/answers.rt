@@ -1,5 +1,5 @@
-//! What the choice of a worker names, and what comes of it, but for the rows of tasks. No program calls `names`
-//! and `effect`: `om_task::plan` gives both.
+//! What the choice of a worker names, and what comes of it, but for the rows of tasks. `om_task::plan` gives
+//! both to a machine. `names` and `effect` are for tools that ask for one of them alone.
 
 ghost use Rattle.std.specs.Prelude.{◌∷◌, ◌≤◌, ◌^◌, Some};
 ghost use Rattle.om_code.specs.Places.{instruction_at};

@@ -339,8 +339,8 @@ impl Machine {
     }
 
     /// Takes out the members of the cone that `cone` answered at this very history. The number of steps
-    /// ever made stays. It takes no memory. No program calls it: `roll` does both at once, and this is for
-    /// a debugger that shows the cone first.
+    /// ever made stays. It takes no memory. `roll` does both at once, and this is for a debugger that shows
+    /// the cone first.
     pub fn take_out(&mut self, taken: &[Taken])
         requires { (serial : ℕ) × (taken.now ≡ rolled_from self.old serial) }
         ensures { TakesOut taken.now self.old self.new }
