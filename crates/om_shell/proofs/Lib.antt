@@ -2,6 +2,8 @@ mod Bytes
 mod LineEnds
 mod LineLaws
 mod SourceLaws
+mod KeptSource
+mod Stubs
 mod Advances
 mod SessionLaws
 mod ServeLaws
