@@ -5,7 +5,7 @@ PROGRAM is the debugger, LAB the program `omplab` beside it, which is tried too 
 the last line counts the rows, and the status is 1 where one of them is wrong.
 It needs Python 3 with its standard library alone.
 """
-import os, resource, subprocess, sys, tempfile, time
+import os, resource, subprocess, sys, tempfile
 
 SOURCE = b"int x; int main(void){ x = 1; }\n"
 # Where it runs alone it meets a fault.
@@ -43,32 +43,21 @@ def with_closed_input(command):
         os.close(folder)
 
 
-def peak(process):
-    """The most memory that a process had so far, in kB; 0 where it is gone."""
-    try:
-        with open(f"/proc/{process.pid}/status") as status:
-            return next((int(line.split()[1]) for line in status if line.startswith("VmHWM")), 0)
-    except OSError:
-        return 0
-
-
 def fed(command, blocks=(), tail=b""):
-    """A run whose standard input is these blocks and then a tail; whether it made do with the memory that suffices is told last."""
+    """A run whose standard input is these blocks and then a tail; whether it made do with the memory that suffices is told last.
+
+    What the kernel tells of a run counts this script's own memory too, as far as the run began with it: less than suffices.
+    """
     process = subprocess.Popen(command, stdin=subprocess.PIPE, stdout=subprocess.PIPE, stderr=subprocess.PIPE)
-    most = 0
     try:
-        for block in blocks:
+        for block in [*blocks, tail]:
             process.stdin.write(block)
-        process.stdin.flush()
-        most = peak(process)
-        process.stdin.write(tail)
         process.stdin.close()
     except BrokenPipeError:
         pass
-    while process.poll() is None:
-        most = max(most, peak(process))
-        time.sleep(0.01)
-    return process.returncode, process.stdout.read(), process.stderr.read(), 0 < most <= MOST_KB
+    _, ended, used = os.wait4(process.pid, 0)
+    process.returncode = os.WEXITSTATUS(ended) if os.WIFEXITED(ended) else -os.WTERMSIG(ended)
+    return process.returncode, process.stdout.read(), process.stderr.read(), used.ru_maxrss <= MOST_KB
 
 
 def cut_off(got, length):

@@ -19,7 +19,8 @@ take_front (suc n) [] b = refl
 take_front (suc n) (x ∷ a) b = ap (λ l. x ∷ l) (take_front n a b)
 
 take_room : (a b : List ℕ) (n room : ℕ) → n ≡ length a + room → take n (a ++ b) ≡ a ++ take room b
-take_room [] b n room e = ap (λ k. take k b) e
+take_room [] b n room e =
+    let same : n ≡ room = omega (arith, e) in ap (λ k. take k b) same
 take_room (x ∷ a) b zero room e = absurd (omega (arith, e))
 take_room (x ∷ a) b (suc n) room e = ap (λ l. x ∷ l) (take_room a b n room (omega (arith, e)))
 
@@ -27,6 +28,10 @@ take_room (x ∷ a) b (suc n) room e = ap (λ l. x ∷ l) (take_room a b n room 
 pub kept_front : (a b : List ℕ) → kept (kept a ++ b) ≡ kept (a ++ b)
 unfolding kept
 kept_front a b = take_front 4194304 a b
+
+-- what is kept of what is kept of all so far, and of more
+pub kept_next : (all a b c : List ℕ) → b ≡ kept all → c ≡ kept (b ++ a) → c ≡ kept (all ++ a)
+kept_next all a b c e f = f ∙ ap (λ l. kept (l ++ a)) e ∙ kept_front all a
 
 pub kept_all : (a : List ℕ) → length a ≤ 4194304 → kept a ≡ a
 unfolding kept
@@ -90,9 +95,9 @@ past_first : (s : ℕ) (stub more front : List ℕ) (n : ℕ) → s ∷ take n (
     → (s == 10) ≡ false → (AreWholeLines (take n (stub ++ more)) → (take n (stub ++ more) ≡ []) ⊎ ((x : List ℕ)
     × (take n (stub ++ more) ≡ stub ++ x))) → (s ∷ take n (stub ++ more) ≡ []) ⊎ ((x : List ℕ)
     × (s ∷ take n (stub ++ more) ≡ s ∷ (stub ++ x)))
-past_first s stub more [] n e no rest =
-    let same : s ≡ 10 = cc in absurd (true≢false (sym (eq-eqb s 10 same) ∙ no))
-past_first s stub more (f ∷ front) n e no rest =
+past_first s stub more [] n e other rest =
+    let same : s ≡ 10 = cc in absurd (true≢false (sym (eq-eqb s 10 same) ∙ other))
+past_first s stub more (f ∷ front) n e other rest =
     let tail : take n (stub ++ more) ≡ front ++ 10 ∷ [] = cc in
     elim (rest (inr (front, tail))) [
       | inl none ↦ absurd (not_empty front (sym tail ∙ none))
@@ -228,17 +233,17 @@ handled_more taken handled pending part rest e f = e ∙ ap (λ l. handled ++ l)
 pub keep_none : (source pending : List ℕ) → source ≡ [] → pending ≡ [] → KeepsSource [] source pending
 keep_none source pending none e =
     let empty : length source ≡ 0 = ap length none in record {
-  handled = [];
-  stub = [];
-  more = [];
-  bytes = sym e;
-  begins = e;
-  unended = refl;
-  few = omega (arith, empty);
-  source_is = λ future. ap (λ l. kept (l ++ source_in (parts_of future))) (sym none);
-  commands_are = λ future. refl;
-  unmarked = λ future. refl;
-}
+      handled = [];
+      stub = [];
+      more = [];
+      bytes = sym e;
+      begins = e;
+      unended = refl;
+      few = omega (arith, empty);
+      source_is = λ future. ap (λ l. kept (l ++ source_in (parts_of future))) (sym none);
+      commands_are = λ future. refl;
+      unmarked = λ future. refl;
+    }
 
 -- nothing is handled
 same_kept : (taken source pending source' pending' part : List ℕ) → KeepsSource taken source pending

@@ -6,6 +6,7 @@ mod KeptSource
 mod Stubs
 mod Advances
 mod SessionLaws
+mod Conversing
 mod ServeLaws
 mod RunLaws
 mod OneScripts

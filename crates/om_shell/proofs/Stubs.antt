@@ -125,7 +125,9 @@ no_end_front zero bytes h = refl
 no_end_front (suc n) [] h = refl
 no_end_front (suc n) (x ∷ bytes) h =
     let no = no_end_cons x bytes h in
-    let rest = no_end_front n bytes no.1 in rw no.0 (ap suc rest)
+    let rest : position_or_len (λ byte. byte == 10) (take n bytes) ≡ length (take n bytes) =
+    no_end_front n bytes no.1 in
+    rw no.0 (omega (arith, rest))
 
 long_real : (whole front more : List ℕ) → (whole ≡ front) ⊎ (IsLong whole × IsLong front)
     → 1025 < length (front ++ more) → 1025 < length (whole ++ more)

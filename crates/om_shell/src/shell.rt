@@ -79,9 +79,10 @@ fn run_by<H: Threads + Wait + Sync, R: Read, W: Write>(
 /// Reads a source, unless one is handed in, and commands, and answers each before it reads on.
 ///
 /// Bytes are taken from the reader in pieces, up to 2^32 of them, and each reply is written and flushed before the
-/// next read. Of a source, and of a line of commands, no more is kept than its limit asks for: the first
-/// 4,194,304 bytes, and the first 1,026 ones. Further bytes are read and dropped. Without a fault it stops at the end of the input, at the command `quit`, or where a source that was read
-/// to its end is refused. A free run starts threads by `rt`, and joins them before its reply. Faults:
+/// next read. Of a source its first 4,194,304 bytes are kept, and of a line of commands that is not yet ended its
+/// first 1,026. Further bytes are read and dropped, so an input takes no more memory however long it is.
+/// Without a fault it stops at the end of the input, at the command `quit`, or where a source that was read to its
+/// end is refused. A free run starts threads by `rt`, and joins them before its reply. Faults:
 /// - `Read` (H3): a read failed, or 2^32 reads were made.
 /// - `Write` (H4): a write or a flush failed.
 /// - `Memory` (H5): there was no memory, no thread for a free run, or a receipt of one did not stand.

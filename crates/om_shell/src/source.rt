@@ -2,8 +2,7 @@
 //! its source and its commands.
 
 ghost use Rattle.std.specs.Prelude.{◌≡◌, ◌≤◌, ◌^◌, ◌+◌, ◌*◌, ◌++◌, [], ℕ, List, None, true, false, IfSome, IsNone};
-ghost use Rattle.std.specs.Prelude.{IfOk, IfErr};
-ghost use Rattle.std.specs.Prelude.{OnOk, take, drop, length};
+ghost use Rattle.std.specs.Prelude.{IfOk, IfErr, OnOk, take, drop, length};
 ghost use Rattle.std.specs.Option.{option_copied};
 ghost use Rattle.std.specs.Str.Lines.{lines};
 ghost use Rattle.om_shell.specs.Lines.{HasNoLineEnd, parts_of, source_in, commands_in, kept};
@@ -52,7 +51,7 @@ pub(crate) fn source_end(bytes: &[u8], at: usize) -> usize
     }
 }
 
-/// So many bytes of a source are kept, four times as many as it may have.
+// So many bytes of a source are kept, four times as many as it may have.
 const MOST_KEPT: usize = 4_194_304;
 
 // So many bytes of a line are no mark, whatever follows them.
@@ -176,8 +175,8 @@ pub struct SessionBytes<'a> {
     pub commands: &'a [u8],
 }
 
-/// The source and the commands of a session: the source is given, or stands at the front of the input. Of the latter
-/// the first 4,194,304 bytes are kept.
+/// The source and the commands of a session: the source is given, or stands at the front of the input. Of one that
+/// stands there the first 4,194,304 bytes are kept.
 pub fn session_bytes<'a>(given: Option<&'a [u8]>, input: &'a [u8]) -> SessionBytes<'a>
     ensures source { result.source.now ≡ source_of (option_copied given.entry) input.now }
     ensures commands { lines result.commands.now

@@ -33,3 +33,39 @@ reads-preserved g c =
       within = known.0;
       known = known.1;
     }
+
+pub returns-in_err-more-clause-failed : goal.returns-in_err-more-clause-failed
+returns-in_err-more-clause-failed g c =
+    let p = err_from_is_err_and c.from_residual-in_err-more.result c.from_residual-in_err-more.ensures.1 in
+    let k = c.reads.invariant.read in
+    let after = c.in_ok-marked.ensures.kept c.if-marked.false k.taken k.keeps in
+    let unended = c.in_ok-marked.ensures.unended c.if-marked.false in
+    let fails = c.in_err-more.ensures.failed in
+    rw (p.1, p.2) (record {
+      taken = k.taken ++ fails.bytes;
+      consumes = Consumes-trans _ _ _ _ _ k.consumes fails.consumes;
+      unmarked = λ read. ap (λ l. has_mark (parts_of (k.taken ++ l))) (fails.none read)
+          ∙ ap (λ l. has_mark (parts_of l)) (append-nil k.taken) ∙ keep_unmarked _ _ _ unended after;
+    })
+
+pub keep-requires : goal.keep-requires
+keep-requires g c =
+    let k = c.reads.invariant.read in
+    let after = c.in_ok-marked.ensures.kept c.if-marked.false k.taken k.keeps in after.few
+
+pub returns-then-not-more-clause-unmarked : goal.returns-then-not-more-clause-unmarked
+returns-then-not-more-clause-unmarked g c =
+    let k = c.reads.invariant.read in
+    let after = c.in_ok-marked.ensures.kept c.if-marked.false k.taken k.keeps in
+    let read = c.in_ok-more.ensures.read in
+    let ended = c.in_ok-more.ensures.ended c.if-not-more.true in
+    let unmarked = rw c.deref.ensures.value at c.source_end-end.ensures in
+    let kept = rw c.deref-then-not-more.ensures.value at c.in_ok-keep.ensures.kept in
+    let last = keep_end _ _ _ _ _ unmarked kept (keep_read _ _ _ _ read.0 read.2 after) in
+    λ _. record {
+      taken = k.taken ++ read.0;
+      consumes = Consumes-trans _ _ _ _ _ k.consumes read.1;
+      at_end = ended.0;
+      source_is = last.0;
+      commands_are = last.1;
+    }
