@@ -1,7 +1,7 @@
 -- The source, a line at a time.
 use Rattle.std.proofs.Common.{◌≡◌, ℕ, ◌+◌, ◌<◌, ◌≤◌, Bool, true, false, cond, List, [], ◌∷◌, ◌++◌, ◌==◌, length, take}
-use Rattle.std.proofs.Common.{drop, refl, sym, subst, ap, ◌∙◌, arith, append_assoc, append-nil, inl, inr, take-add, length-drop}
-use Rattle.std.proofs.Common.{length-append, take-append-drop, take_all, get_or, eqb-true}
+use Rattle.std.proofs.Common.{drop, refl, sym, subst, ap, ◌∙◌, arith, append_assoc, append-nil, inl, inr}
+use Rattle.std.proofs.Common.{take-add, length-drop, length-append, take-append-drop, take_all, get_or, eqb-true}
 use Rattle.std.specs.List.{position_or_len}
 use Rattle.std.specs.Str.Lines.{lines, lines_of_parts, strip_carriage_return}
 use Rattle.std.proofs.lemmas.List.{take-append-le, take_more}

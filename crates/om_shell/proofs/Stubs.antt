@@ -1,7 +1,7 @@
 -- A line that is too long, of which a beginning is kept: it stands for the whole of it.
 use Rattle.std.proofs.Common.{◌≡◌, ℕ, zero, suc, ◌+◌, ◌-◌, ◌<◌, ◌≤◌, Bool, true, false, cond, List, [], ◌∷◌, ◌++◌, ◌==◌}
 use Rattle.std.proofs.Common.{length, take, drop, refl, sym, ap, subst, ◌∙◌, ◌⊎◌, inl, inr, Option, arith, append_assoc}
-use Rattle.std.proofs.Common.{append-nil, take-append-drop, take_all, length-append, length-drop, length-take-le}
+use Rattle.std.proofs.Common.{append-nil, take-append-drop, take_all, length-append, length-take-le}
 use Rattle.std.proofs.Common.{eq-eqb, true≢false, nat_lt, nat_le, nat_eq, slice_index}
 use Rattle.std.proofs.Math.Seq.{take-append_seam}
 use Rattle.std.proofs.lemmas.Bool.Decides.{nat_tests}
@@ -9,15 +9,13 @@ use Rattle.std.specs.List.{position_or_len}
 use Rattle.std.specs.Str.Lines.{lines, lines_of_parts, strip_carriage_return}
 use Rattle.om_shell_commands.specs.Commands.{request_of}
 use Rattle.om_shell_commands.specs.declared.command.CommandFault.TheVariants.{BadArgument}
-use Rattle.om_shell_commands.specs.declared.command.Request.{Request}
 use Rattle.om_shell_commands.specs.declared.command.Request.TheVariants as request
 use Rattle.om_shell_debugger.specs.declared.debugger.Debugger.{Debugger}
 use Rattle.om_shell_debugger.specs.Freed.{FreeRun}
 use Rattle.om_shell_debugger.specs.Views.{Answer, answered, answer_by}
-use Rattle.om_shell.specs.Batch.{Answers}
-use Rattle.om_shell.specs.Lines.{HasNoLineEnd, parts_of}
+use Rattle.om_shell.specs.Lines.{HasNoLineEnd}
 use Rattle.om_shell.specs.Progress.{AreWholeLines}
-use Rattle.om_shell.specs.Sessions.{after_answer, session, due, due_behind, AnswersBatch}
+use Rattle.om_shell.specs.Sessions.{after_answer, session, due, AnswersBatch}
 use Rattle.om_shell.specs.Stubs.{IsLong, StandsFor}
 use Rattle.om_shell.proofs.KeptSource.{no_end_cons, no_end_behind, whole_past, part_past}
 use Rattle.om_shell.proofs.LineEnds.{line_end_after}
@@ -57,7 +55,8 @@ last_parts line h =
 
 -- lines whose first part is too long
 long_parts : (d : Debugger) (runs : List FreeRun) (one other : List ℕ) (parts : List (List ℕ)) → 1025 < length one
-    → 1025 < length other → session d runs (lines_of_parts (one ∷ parts)) ≡ session d runs (lines_of_parts (other ∷ parts))
+    → 1025 < length other
+    → session d runs (lines_of_parts (one ∷ parts)) ≡ session d runs (lines_of_parts (other ∷ parts))
 long_parts d runs one other [] h k =
     ap (session d runs) (last_parts one h) ∙ same_session d runs one other [] (omega (arith, h)) (omega (arith, k))
     ∙ ap (session d runs) (sym (last_parts other k))

@@ -54,7 +54,8 @@ pub record KeepsSource (taken source pending : List ℕ) : Type 0 where
   pub unmarked : (future : List ℕ) → has_mark (parts_of (handled ++ (stub ++ future)))
       ≡ has_mark (parts_of (stub ++ future))
 
--- The bytes that were taken are whole lines up to the mark's, and then those that are pending. This is kept of the source.
+-- The bytes that were taken are whole lines up to the mark's, and then those that are pending. This is kept of the
+-- source.
 pub record EndsSource (taken source pending : List ℕ) : Type 0 where
   pub handled : List ℕ
   pub bytes : taken ≡ handled ++ pending

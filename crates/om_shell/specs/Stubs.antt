@@ -5,8 +5,8 @@ use Rattle.om_shell.specs.Lines.{HasNoLineEnd}
 use Rattle.om_shell.specs.Progress.{Moment, moment_of}
 use Rattle.om_shell.specs.Sessions.{AdvancesTo}
 
--- The beginning of a line that is too long, whatever follows: a line of more than 1,024 bytes is refused, and a carriage
--- return at its end does not count.
+-- The beginning of a line that is too long, whatever follows: a line of more than 1,024 bytes is refused, and a
+-- carriage return at its end does not count.
 abbrev pub IsLong : List ℕ → Type 0
 IsLong bytes = HasNoLineEnd bytes × (1025 < length bytes)
 

@@ -1,4 +1,4 @@
-use Rattle.std.proofs.Common.{arith, [], ◌++◌, ◌∙◌, sym, ap, length}
+use Rattle.std.proofs.Common.{arith, [], ◌∙◌, sym, ap, length}
 use Rattle.std.proofs.KnownBytes.{Consumes-nil, Consumes-trans, Consumes-kept}
 use Rattle.om_shell.proofs.KeptSource.{kept_all, kept_next}
 use Rattle.om_shell.proofs.file.read_kept.Goals.{in-Ok+in_ok-keep-in-Ok, in-Err}

@@ -1,5 +1,5 @@
 use Rattle.std.proofs.lemmas.Result.{err_from_is_err_and, IfOk-weaker}
-use Rattle.om_shell.proofs.RunLaws.{Runs_marked, Runs_unmarked, Breaks_reading, Breaks_marked, Breaks_unmarked}
+use Rattle.om_shell.proofs.RunLaws.{Runs_marked, Breaks_reading, Breaks_marked}
 use Rattle.om_shell.proofs.RunLaws.{IfErr_weaker}
 use Rattle.om_shell.proofs.shell.run_from_input.Goals as goal
 

@@ -10,4 +10,5 @@ returns-in_ok-extend_from_slice-clause-kept c =
 pub returns-in_ok-extend_from_slice-2-clause-kept : goal.returns-in_ok-extend_from_slice-2-clause-kept
 returns-in_ok-extend_from_slice-2-clause-kept c =
     kept_within c.args.source.now.items c.args.bytes.now _ (4194304 - c.len-room.result) c.requires
-    (omega (arith, c.len-room.ensures, c.args.source.now.ok.0)) c.if-bytes-room.false c.in_ok-extend_from_slice-2.ensures.items
+    (omega (arith, c.len-room.ensures, c.args.source.now.ok.0)) c.if-bytes-room.false
+    c.in_ok-extend_from_slice-2.ensures.items

@@ -1,4 +1,4 @@
-use Rattle.std.proofs.Common.{arith, [], ◌++◌, sym, ap, ◌∙◌, append-nil, subst, refl}
+use Rattle.std.proofs.Common.{arith, [], ◌++◌, ap, ◌∙◌, append-nil, refl}
 use Rattle.std.proofs.lemmas.Result.{err_from_is_err_and}
 use Rattle.std.proofs.KnownBytes.{Consumes-nil, Consumes-trans}
 use Rattle.om_shell.specs.Lines.{parts_of, has_mark}

@@ -13,4 +13,5 @@ returns-clause-kept c =
     let scanned = rw (c.in_default.is, c.deref.ensures.value) at c.scan-at.ensures.scanned in
     let kept = rw c.deref-2.ensures.value at c.in_ok-keep.ensures.kept in
     λ _ taken k. c.in_ok-take_long_line.ensures.kept taken
-    (keep_lines taken _ _ _ _ c.scan-at.result.0 (scanned refl) c.in_ok-keep.ensures.few kept c.discard-2.ensures.pending k)
+    (keep_lines taken _ _ _ _ c.scan-at.result.0 (scanned refl) c.in_ok-keep.ensures.few kept
+    c.discard-2.ensures.pending k)
