@@ -30,5 +30,6 @@ pub mod Behind
 pub mod TreePlaces
 pub mod PlaceLaws
 pub mod WeightLaws
+pub mod BreachLaws
 pub mod LoopViews
 pub mod UpdateViews
