@@ -30,6 +30,5 @@ pub mod Behind
 pub mod TreePlaces
 pub mod PlaceLaws
 pub mod WeightLaws
-pub mod BreachLaws
 pub mod LoopViews
 pub mod UpdateViews

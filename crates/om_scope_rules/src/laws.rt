@@ -1,7 +1,6 @@
 //! Laws of the rules and of resolution, for every tree and every source, whoever asks them and whoever
 //! resolves.
 
-ghost use Rattle.om_scope_rules.specs.BreachLaws.{FirstBreachIsLeast};
 ghost use Rattle.om_scope_rules.specs.PlaceLaws.{CopiesStandBehind, NamesStandBehind};
 ghost use Rattle.om_scope_rules.specs.PlaceLaws.{PlacesHaveTokens, PlacesRise, PlacesStandThere, SourcesHaveCopiesBehind};
 ghost use Rattle.om_scope_rules.specs.WeightLaws.{SourcesHaveSmallWeight};
@@ -80,14 +79,6 @@ pub fn places_stand_in_order()
     ensures rise { PlacesRise }
     ensures stand { PlacesStandThere }
     ensures at_tokens { PlacesHaveTokens }
-{
-    tokens_in_order();
-}
-
-/// Of the rules that a source breaks, the first one in the list stands at the lowest place, and of those
-/// at this place it has the lowest number. So that is the one which is answered.
-pub fn first_breach_is_least()
-    ensures { FirstBreachIsLeast }
 {
     tokens_in_order();
 }

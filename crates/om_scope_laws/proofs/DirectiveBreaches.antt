@@ -1,8 +1,8 @@
 -- The breaches of a directive stand at its tokens, in their order.
-use Rattle.std.proofs.Common.{◌≡◌, ℕ, Bool, true, false, List, [], ◌∷◌, ◌++◌, Option, None, Some, map, codes, refl, sym, subst}
-use Rattle.std.proofs.Common.{append-nil, arith}
+use Rattle.std.proofs.Common.{◌≡◌, Bool, true, false, List, [], ◌∷◌, ◌++◌, Option, None, Some, map, refl, sym, subst}
+use Rattle.std.proofs.Common.{append-nil}
 use Rattle.std.specs.List.{flat_map}
-use Rattle.std.specs.Prelude.{◌&&◌, ◌||◌, not}
+use Rattle.std.specs.Prelude.{◌&&◌, ◌||◌}
 use Rattle.om_lexer.specs.declared.fault.FaultCode.TheVariants as faults
 use Rattle.om_lexer.specs.declared.fault.SourceFault.{SourceFault}
 use Rattle.om_lexer.specs.declared.token.Span.{Span}
@@ -20,7 +20,7 @@ use Rattle.om_pragma.specs.declared.tree.Directive.{Directive}
 use Rattle.om_pragma.specs.declared.tree.DirectiveName.{DirectiveName}
 use Rattle.om_pragma.specs.declared.tree.DirectiveName.TheVariants as directives
 use Rattle.om_pragma.specs.Questions.{word_span}
-use Rattle.om_pragma.specs.Spelling.{argument_spelling, clause_spelling, comma_spelling, critical_spelling}
+use Rattle.om_pragma.specs.Spelling.{argument_spelling, clause_spelling, comma_spelling}
 use Rattle.om_pragma.specs.Spelling.{directive_spelling, flush_spelling, further_spelling, item_spelling, list_spelling}
 use Rattle.om_pragma.specs.Spelling.{name_spelling, names_spelling, opening_spelling}
 use Rattle.om_pragma.specs.Table.{IsDirective, IsItem, EachBehind, may_stand}
@@ -29,16 +29,18 @@ use Rattle.om_parser_tree.specs.Spelling.{expression_spelling, name, token}
 use Rattle.om_parser_tree.specs.Tree.{ExpressionTree}
 use Rattle.om_scope_rules.specs.declared.region.Flow.{Flow}
 use Rattle.om_scope_rules.specs.DirectiveRules.{Listed, after_item, after_name, clause_breaches, directive_breaches}
-use Rattle.om_scope_rules.specs.DirectiveRules.{flush_breaches, flushed_breaches, is_listed, is_mislisted, item_breaches}
-use Rattle.om_scope_rules.specs.DirectiveRules.{list_breaches, listed_breaches, names_breaches, names_in, nesting_breaches}
+use Rattle.om_scope_rules.specs.DirectiveRules.{flush_breaches, flushed_breaches, is_listed, is_mislisted}
+use Rattle.om_scope_rules.specs.DirectiveRules.{item_breaches}
+use Rattle.om_scope_rules.specs.DirectiveRules.{list_breaches, listed_breaches, names_breaches, names_in}
+use Rattle.om_scope_rules.specs.DirectiveRules.{nesting_breaches}
 use Rattle.om_scope_rules.specs.DirectiveRules.{nothing_listed, traits_of, uses_original}
 use Rattle.om_scope_rules.specs.ExpressionRules.{is_undeclared}
 use Rattle.om_scope_rules.specs.Faults.{breach_if, breaches_along}
 use Rattle.om_scope_rules.specs.Scopes.{Scopes, meaning_of}
 use Rattle.om_scope_rules.specs.Sharing.{is_unlisted}
-use Rattle.om_scope_rules.proofs.ExpressionBreaches.{alone, expression_among, named, three}
-use Rattle.om_scope_rules.proofs.TokenBreaches.{Among, IsWide, RiseAt, before, behind, first_alone, further, none}
-use Rattle.om_scope_rules.proofs.TokenBreaches.{stands, together}
+use Rattle.om_scope_laws.proofs.ExpressionBreaches.{alone, expression_among, named, three}
+use Rattle.om_scope_laws.proofs.TokenBreaches.{Among, IsWide, RiseAt, before, behind, first_alone, further, none}
+use Rattle.om_scope_laws.proofs.TokenBreaches.{stands, together}
 
 -- ---- names in lists
 

@@ -1,9 +1,9 @@
 -- The breaches of a source stand at its tokens, in their order; so the first goes before all.
-use Rattle.std.proofs.Common.{◌≡◌, ◌<◌, ◌≤◌, ℕ, zero, suc, ◌+◌, Bool, true, false, List, [], ◌∷◌, ◌++◌, Option, None, Some}
-use Rattle.std.proofs.Common.{All, append_assoc, ap, get_or, length, map, refl, subst, sym, ◌∙◌, arith}
+use Rattle.std.proofs.Common.{◌≡◌, ◌<◌, ℕ, zero, suc, ◌+◌, Bool, true, List, [], ◌∷◌, ◌++◌, Option, None, Some}
+use Rattle.std.proofs.Common.{All, append_assoc, ap, get_or, length, map, refl, subst, sym, arith}
 use Rattle.std.proofs.lemmas.List.Elements.{All-head, All-tail}
 use Rattle.std.specs.List.{flat_map, list_any}
-use Rattle.std.specs.Prelude.{Contains, codes, nat_le, nat_lt, not, ◌&&◌}
+use Rattle.std.specs.Prelude.{Contains, codes, nat_le, nat_lt, not}
 use Rattle.std.specs.Str.{bytes_eq}
 use Rattle.om_lexer.specs.declared.fault.FaultCode.TheVariants as faults
 use Rattle.om_lexer.specs.declared.fault.SourceFault.{SourceFault}
@@ -22,36 +22,43 @@ use Rattle.om_parser_tree.specs.declared.tree.SignedNumber.{SignedNumber}
 use Rattle.om_parser_tree.specs.Formed.{IsFunction, IsItem, IsUnit}
 use Rattle.om_parser_tree.specs.Spelling.{array_spelling, behind_comma, block_spelling, declaration_spelling}
 use Rattle.om_parser_tree.specs.Spelling.{declarator_spelling, definition_spelling, further_spelling, given_name}
-use Rattle.om_parser_tree.specs.Spelling.{global_spelling, head_spelling, initializer_spelling, item_spelling, mark, name}
+use Rattle.om_parser_tree.specs.Spelling.{global_spelling, head_spelling, initializer_spelling, item_spelling, mark}
+use Rattle.om_parser_tree.specs.Spelling.{name}
 use Rattle.om_parser_tree.specs.Spelling.{number, parameter_spelling, parameters_spelling, perhaps, prototype_spelling}
-use Rattle.om_parser_tree.specs.Spelling.{result_spelling, signed_spelling, statement_spelling, statements_spelling, token}
+use Rattle.om_parser_tree.specs.Spelling.{result_spelling, signed_spelling, statement_spelling, statements_spelling}
+use Rattle.om_parser_tree.specs.Spelling.{token}
 use Rattle.om_parser_tree.specs.Spelling.{unit_spelling, word}
-use Rattle.om_parser_tree.specs.Tree.{InitializerTree, DeclaratorTree, DeclarationTree, HeadTree, ParametersTree, NoParameters}
+use Rattle.om_parser_tree.specs.Tree.{InitializerTree, DeclaratorTree, DeclarationTree, HeadTree, ParametersTree}
+use Rattle.om_parser_tree.specs.Tree.{NoParameters}
 use Rattle.om_parser_tree.specs.Tree.{Void, Listed, FunctionTree, ItemTree, Declaration, Prototype, Function, UnitTree}
-use Rattle.om_parser_tree.specs.Tree.{statements}
+use Rattle.om_parser_tree.specs.Tree.{StatementTree, statements}
 use Rattle.om_scope_rules.specs.declared.limits.TheConstants.{FUNCTION_LIMIT, GLOBAL_CELL_LIMIT, PARAMETER_LIMIT}
 use Rattle.om_scope_rules.specs.Breaches.{breaches_of, is_main}
-use Rattle.om_scope_rules.specs.BreachLaws.{FirstBreachIsLeast}
+use Rattle.om_scope_laws.specs.BreachLaws.{FirstBreachIsLeast}
 use Rattle.om_scope_rules.specs.ExpressionRules.{constant_breaches}
 use Rattle.om_scope_rules.specs.Faults.{breach_if, breaches_along, first_of, goes_first}
 use Rattle.om_scope_rules.specs.Places.{head_start, result_first}
-use Rattle.om_scope_rules.specs.Scopes.{Scopes, after_function, after_global, after_item, after_parameters, after_prototype}
+use Rattle.om_scope_rules.specs.Scopes.{Scopes, after_function, after_global, after_item, after_parameters}
+use Rattle.om_scope_rules.specs.Scopes.{after_prototype}
 use Rattle.om_scope_rules.specs.Scopes.{behind_commas, cells_of, declarators_of, definitions_of, file_scope, inside}
 use Rattle.om_scope_rules.specs.Scopes.{is_declared, meaning_here, parameters_of, predeclared, signature_of}
 use Rattle.om_scope_rules.specs.Scopes.{after_optional, after_parameter}
 use Rattle.om_scope_rules.specs.StatementRules.{array_size_breaches, is_empty_array, redeclared_breaches}
 use Rattle.om_scope_rules.specs.StatementRules.{statements_breaches}
-use Rattle.om_scope_rules.specs.UnitRules.{flow_of, function_breaches, further_breaches, global_breaches, global_name_breaches}
-use Rattle.om_scope_rules.specs.UnitRules.{globals_breaches, head_breaches, initial_breaches, is_other_main, is_redeclared}
-use Rattle.om_scope_rules.specs.UnitRules.{item_breaches, items_breaches, next_optional, next_parameter, optional_breaches}
+use Rattle.om_scope_rules.specs.UnitRules.{flow_of, function_breaches, further_breaches, global_breaches}
+use Rattle.om_scope_rules.specs.UnitRules.{global_name_breaches}
+use Rattle.om_scope_rules.specs.UnitRules.{globals_breaches, head_breaches, initial_breaches, is_other_main}
+use Rattle.om_scope_rules.specs.UnitRules.{is_redeclared}
+use Rattle.om_scope_rules.specs.UnitRules.{item_breaches, items_breaches, next_optional, next_parameter}
+use Rattle.om_scope_rules.specs.UnitRules.{optional_breaches}
 use Rattle.om_scope_rules.specs.UnitRules.{optional_name_breaches, optionals_breaches, parameter_breaches}
 use Rattle.om_scope_rules.specs.UnitRules.{parameters_breaches}
-use Rattle.om_scope_rules.proofs.ExpressionBreaches.{alone, named, named_alone}
-use Rattle.om_scope_rules.proofs.StatementBreaches.{statements_among}
-use Rattle.om_scope_rules.proofs.TokenBreaches.{Among, GoesBefore, IsLed, Ordered, RiseAt, Rises, before, behind, first}
-use Rattle.om_scope_rules.proofs.TokenBreaches.{first_alone, further, led_last, none, one, ordered_source, rise_at, rise_next, stands}
-use Rattle.om_scope_rules.proofs.TokenBreaches.{together}
-use Rattle.om_scope_rules.proofs.UnitPlaces.{spelled}
+use Rattle.om_scope_laws.proofs.ExpressionBreaches.{alone, named, named_alone}
+use Rattle.om_scope_laws.proofs.StatementBreaches.{statements_among}
+use Rattle.om_scope_laws.proofs.TokenBreaches.{Among, GoesBefore, IsLed, Ordered, RiseAt, Rises, before, behind, first}
+use Rattle.om_scope_laws.proofs.TokenBreaches.{first_alone, further, led_last, none, one, ordered_source, rise_at}
+use Rattle.om_scope_laws.proofs.TokenBreaches.{rise_next, stands}
+use Rattle.om_scope_laws.proofs.TokenBreaches.{together}
 
 -- ---- globals
 
@@ -188,8 +195,8 @@ from_zero start least most [] h = tt
 from_zero start least most (b ∷ bs) h = (h.0, omega arith, rise_at start _ most bs h.2)
 
 prototype_among : (scopes : Scopes) (h : HeadTree (Option names.Name))
-    → Among (head_breaches scopes h ++ optionals_breaches (inside (after_prototype scopes h)) (parameters_of h.parameters))
-    (prototype_spelling h)
+    → Among (head_breaches scopes h
+    ++ optionals_breaches (inside (after_prototype scopes h)) (parameters_of h.parameters)) (prototype_spelling h)
 unfolding head_spelling
 prototype_among scopes h =
     let inner = inside (after_prototype scopes h) in
@@ -197,6 +204,12 @@ prototype_among scopes h =
     (from_zero h.name.span.start 8 9 (head_breaches scopes h) (head_rises scopes h))
     (further _ _ _ (before _ (parameters_spelling (perhaps given_name) h.parameters) _
     (optionals_among inner h.parameters))))
+
+-- a block is spelt item by item
+spelled : (items : List StatementTree) → statements_spelling (statements items) ≡ flat_map statement_spelling items
+unfolding statements_spelling
+spelled [] = refl
+spelled (s ∷ rest) = ap (λ ts. statement_spelling s ++ ts) (spelled rest)
 
 regrouped : (a b c p s : List SourceFault) → (a ++ ((b ++ c) ++ p)) ++ s ≡ ((a ++ b) ++ c) ++ (p ++ s)
 regrouped [] b c p s = append_assoc (b ++ c) p s
@@ -211,8 +224,8 @@ result_stands (results.Int at) broken bs ts more =
     more
 result_stands (results.Void at) broken bs ts more =
     first (breach_if broken faults.TooMany at.start) bs (word keywords.Void at) ts
-    (stands (word keywords.Void at) (breach_if broken faults.TooMany at.start) tt (alone broken faults.TooMany at.start))
-    more
+    (stands (word keywords.Void at) (breach_if broken faults.TooMany at.start) tt
+    (alone broken faults.TooMany at.start)) more
 
 function_among : (scopes : Scopes) (f : FunctionTree) → IsFunction f
     → Among (function_breaches scopes f) (definition_spelling f.head ++ block_spelling f.body)
@@ -233,7 +246,8 @@ function_among scopes f h =
     let body = subst (λ ts. Among s ts) (spelled f.body.items)
     (statements_among (statements f.body.items) within (flow_of head) h) in
     let name_rises = rise_at at 0 9 (b ++ c)
-    (rise_next at 0 8 9 b c (one again faults.Redeclared at 0 8 (omega arith) (omega arith)) (head_rises scopes head)) in
+    (rise_next at 0 8 9 b c (one again faults.Redeclared at 0 8 (omega arith) (omega arith))
+    (head_rises scopes head)) in
     let first_line = result_stands head.result many ((b ++ c) ++ p) _
     (named head.name (b ++ c) p _ name_rises
     (further _ _ _ (before _ (parameters_spelling given_name head.parameters) _
@@ -254,7 +268,8 @@ items_among : (items : List ItemTree) (scopes : Scopes) → All IsItem items
     → Among (items_breaches scopes items) (flat_map item_spelling items)
 items_among [] scopes h = none []
 items_among (item ∷ items) scopes h =
-    together (item_breaches scopes item) _ (item_spelling item) _ (item_among scopes item (All-head IsItem item items h))
+    together (item_breaches scopes item) _ (item_spelling item) _
+    (item_among scopes item (All-head IsItem item items h))
     (items_among items (after_item scopes item) (All-tail IsItem item items h))
 
 unit_led : (unit : UnitTree) → Ordered 0 (unit_spelling unit) → IsUnit unit → IsLed (breaches_of unit)

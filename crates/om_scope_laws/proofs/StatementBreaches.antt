@@ -1,8 +1,7 @@
 -- The breaches of a statement stand at its tokens, in their order.
-use Rattle.std.proofs.Common.{◌≡◌, ℕ, ◌+◌, Bool, true, false, List, [], ◌∷◌, ◌++◌, Option, None, Some, refl, sym, subst, arith}
-use Rattle.std.specs.Prelude.{IfSome, IsSome, is_some, nat_le, not, if◌then◌else◌}
+use Rattle.std.proofs.Common.{ℕ, ◌+◌, Bool, true, false, List, [], ◌∷◌, ◌++◌, Option, None, Some}
+use Rattle.std.specs.Prelude.{IfSome, is_some, nat_le, not}
 use Rattle.om_lexer.specs.declared.fault.FaultCode.TheVariants as faults
-use Rattle.om_lexer.specs.declared.fault.SourceFault.{SourceFault}
 use Rattle.om_lexer.specs.declared.token.Keyword.{Keyword}
 use Rattle.om_lexer.specs.declared.token.Keyword.TheVariants as keywords
 use Rattle.om_lexer.specs.declared.token.Punctuator.TheVariants as punctuators
@@ -12,35 +11,40 @@ use Rattle.om_lexer.specs.declared.token.TokenKind.TheVariants as kinds
 use Rattle.om_pragma.specs.declared.tree.Directive.{Directive}
 use Rattle.om_pragma.specs.Spelling.{directive_spelling, opening_spelling}
 use Rattle.om_parser_tree.specs.Formed.{IsStatement, AreStatements, AreParts, AreFurtherParts, ArePartItems}
-use Rattle.om_parser_tree.specs.Spelling.{condition_spelling, declaration_spelling, expression_spelling, for_head_spelling}
+use Rattle.om_parser_tree.specs.Spelling.{condition_spelling, declaration_spelling, expression_spelling}
+use Rattle.om_parser_tree.specs.Spelling.{for_head_spelling}
 use Rattle.om_parser_tree.specs.Spelling.{mark, parts_spelling, perhaps, section_spelling, statement_spelling}
 use Rattle.om_parser_tree.specs.Spelling.{statements_spelling, token, word}
-use Rattle.om_parser_tree.specs.Tree.{ConditionTree, ExpressionTree, ForHeadTree, StatementTree, LocalDeclaration, Block, Empty}
+use Rattle.om_parser_tree.specs.Tree.{ConditionTree, ExpressionTree, StatementTree, LocalDeclaration, Block, Empty}
 use Rattle.om_parser_tree.specs.Tree.{Expression, If, IfElse, While, Do, For, Return, Break, Continue, Construct}
-use Rattle.om_parser_tree.specs.Tree.{StandAlone, Sections, StatementsTree, NoStatements, Statement, PartsTree, NoParts, Part}
+use Rattle.om_parser_tree.specs.Tree.{StandAlone, Sections, StatementsTree, NoStatements, Statement, PartsTree, NoParts}
+use Rattle.om_parser_tree.specs.Tree.{Part}
 use Rattle.om_scope_rules.specs.declared.limits.TheConstants.{SECTION_LIMIT}
 use Rattle.om_scope_rules.specs.declared.region.Flow.{Flow}
 use Rattle.om_scope_rules.specs.DirectiveRules.{constructing, directive_breaches, in_construct, traits_of}
 use Rattle.om_scope_rules.specs.ExpressionRules.{expression_breaches, misplaced_breaches}
-use Rattle.om_scope_rules.specs.Faults.{breach_if, with_breach}
+use Rattle.om_scope_rules.specs.Faults.{with_breach}
 use Rattle.om_scope_rules.specs.Loops.{Loop, loop_in, loop_of}
 use Rattle.om_scope_rules.specs.Places.{statement_start}
 use Rattle.om_scope_rules.specs.Scopes.{Scopes, inside}
-use Rattle.om_scope_rules.specs.StatementRules.{after_for_start, after_statement, body_breaches, bounds_breaches, continuing}
-use Rattle.om_scope_rules.specs.StatementRules.{for_start_breaches, for_turn_breaches, found_breaches, in_loop, jump_breaches}
-use Rattle.om_scope_rules.specs.StatementRules.{looping, parts_breaches, return_breaches, round_bounds, section_breaches}
+use Rattle.om_scope_rules.specs.StatementRules.{after_for_start, after_statement, body_breaches, bounds_breaches}
+use Rattle.om_scope_rules.specs.StatementRules.{continuing}
+use Rattle.om_scope_rules.specs.StatementRules.{found_breaches, in_loop, jump_breaches}
+use Rattle.om_scope_rules.specs.StatementRules.{looping, parts_breaches, return_breaches, round_bounds}
+use Rattle.om_scope_rules.specs.StatementRules.{section_breaches}
 use Rattle.om_scope_rules.specs.StatementRules.{statement_breaches, statements_breaches}
-use Rattle.om_scope_rules.proofs.DirectiveBreaches.{directive_among, stand_alone_among}
-use Rattle.om_scope_rules.proofs.ExpressionBreaches.{BeginsAt, alone, begins, begins_more, begins_with, expression_among}
-use Rattle.om_scope_rules.proofs.ExpressionBreaches.{inserted_at, misplaced_among}
-use Rattle.om_scope_rules.proofs.LoopBreaches.{for_head_among, locals_among, loop_among}
-use Rattle.om_scope_rules.proofs.TokenBreaches.{Among, before, behind, chosen, first, first_alone, further, none, stands}
-use Rattle.om_scope_rules.proofs.TokenBreaches.{together}
+use Rattle.om_scope_laws.proofs.DirectiveBreaches.{directive_among, stand_alone_among}
+use Rattle.om_scope_laws.proofs.ExpressionBreaches.{BeginsAt, alone, begins, begins_more, begins_with, expression_among}
+use Rattle.om_scope_laws.proofs.ExpressionBreaches.{inserted_at, misplaced_among}
+use Rattle.om_scope_laws.proofs.LoopBreaches.{for_head_among, locals_among, loop_among}
+use Rattle.om_scope_laws.proofs.TokenBreaches.{Among, before, chosen, first, first_alone, further, none, stands}
+use Rattle.om_scope_laws.proofs.TokenBreaches.{together}
 
 condition_among : (c : ConditionTree) (scopes : Scopes)
     → Among (expression_breaches scopes true c.value) (condition_spelling c)
 unfolding condition_spelling
-condition_among c scopes = further _ _ _ (before _ (expression_spelling c.value) _ (expression_among c.value scopes true))
+condition_among c scopes =
+    further _ _ _ (before _ (expression_spelling c.value) _ (expression_among c.value scopes true))
 
 returned_among : (scopes : Scopes) (flow : Flow) (o : Option ExpressionTree)
     → Among (return_breaches scopes flow o) (perhaps expression_spelling o)
@@ -134,8 +138,9 @@ mutual
       further _ _ _ (together (expression_breaches scopes true c.value) _ (condition_spelling c) (statement_spelling s)
       (condition_among c scopes) (statement_among s (inside scopes) flow h.1))
   statement_among (IfElse at c s other t) scopes flow h =
-      further _ _ _ (together _ (statement_breaches (inside scopes) flow t) (condition_spelling c ++ statement_spelling s)
-      _ (together (expression_breaches scopes true c.value) (statement_breaches (inside scopes) flow s)
+      further _ _ _ (together _ (statement_breaches (inside scopes) flow t)
+      (condition_spelling c ++ statement_spelling s) _
+      (together (expression_breaches scopes true c.value) (statement_breaches (inside scopes) flow s)
       (condition_spelling c) (statement_spelling s) (condition_among c scopes)
       (statement_among s (inside scopes) flow h.1))
       (further _ _ _ (statement_among t (inside scopes) flow h.4)))

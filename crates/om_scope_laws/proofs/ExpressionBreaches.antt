@@ -1,5 +1,5 @@
 -- The breaches of an expression stand at its tokens, in their order.
-use Rattle.std.proofs.Common.{◌≡◌, ℕ, ◌+◌, ◌==◌, Bool, true, false, List, [], ◌∷◌, ◌++◌, Option, refl, sym, ap, subst, arith}
+use Rattle.std.proofs.Common.{◌≡◌, ℕ, ◌+◌, ◌==◌, Bool, true, false, List, [], ◌∷◌, ◌++◌, refl, sym, ap, subst, arith}
 use Rattle.std.proofs.Common.{append_assoc}
 use Rattle.std.specs.Prelude.{nat_lt, not, ◌||◌, if◌then◌else◌}
 use Rattle.om_lexer.specs.declared.fault.FaultCode.{FaultCode}
@@ -7,31 +7,34 @@ use Rattle.om_lexer.specs.declared.fault.FaultCode.TheVariants as faults
 use Rattle.om_lexer.specs.Faults.{number_of}
 use Rattle.om_lexer.specs.declared.fault.SourceFault.{SourceFault}
 use Rattle.om_lexer.specs.declared.token.Punctuator.TheVariants as punctuators
-use Rattle.om_lexer.specs.declared.token.Span.{Span}
 use Rattle.om_lexer.specs.declared.token.Token.{Token}
 use Rattle.om_pragma.specs.declared.clause.Name as names
-use Rattle.om_parser_tree.specs.Spelling.{arguments_spelling, assign_mark, binary_mark, expression_spelling, mark, name}
-use Rattle.om_parser_tree.specs.Spelling.{number, perhaps, postfix_mark, prefix_mark, text}
+use Rattle.om_parser_tree.specs.Spelling.{arguments_spelling, expression_spelling, mark, name}
+use Rattle.om_parser_tree.specs.Spelling.{number, perhaps, prefix_mark, text}
 use Rattle.om_parser_tree.specs.Tree.{ExpressionTree, Name, Constant, Text, Paren, Index, Call, Prefix, Postfix, Binary}
 use Rattle.om_parser_tree.specs.Tree.{Conditional, Assign, ArgumentsTree, NoArguments, Argument}
 use Rattle.om_scope_rules.specs.declared.limits.TheConstants.{PRINTED_LIMIT}
 use Rattle.om_scope_rules.specs.ExpressionRules.{argument_count, arguments_breaches, array_breaches, call_breaches}
-use Rattle.om_scope_rules.specs.ExpressionRules.{constant_breaches, expression_breaches, is_array, is_miscalled, is_print}
+use Rattle.om_scope_rules.specs.ExpressionRules.{constant_breaches, expression_breaches, is_array, is_miscalled}
+use Rattle.om_scope_rules.specs.ExpressionRules.{is_print}
 use Rattle.om_scope_rules.specs.ExpressionRules.{is_printf, is_scalar, is_step, is_target, is_undeclared}
-use Rattle.om_scope_rules.specs.ExpressionRules.{leading_breaches, misplaced_breaches, misprint_breaches, printed_breaches}
+use Rattle.om_scope_rules.specs.ExpressionRules.{leading_breaches, misplaced_breaches, misprint_breaches}
+use Rattle.om_scope_rules.specs.ExpressionRules.{printed_breaches}
 use Rattle.om_scope_rules.specs.ExpressionRules.{scalar_breaches, target_breaches}
 use Rattle.om_scope_rules.specs.Faults.{breach_if, perhaps_with, with_breach}
 use Rattle.om_scope_rules.specs.Places.{expression_start}
 use Rattle.om_scope_rules.specs.Scopes.{Scopes, meaning_of}
 use Rattle.om_scope_rules.specs.Sharing.{is_copied, is_unlisted}
-use Rattle.om_scope_rules.proofs.TokenBreaches.{Among, IsWide, RiseAt, before, behind, chosen, first, first_alone, further}
-use Rattle.om_scope_rules.proofs.TokenBreaches.{Rises, inserted, none, one, rise_at, rise_next, stands, together}
+use Rattle.om_scope_laws.proofs.TokenBreaches.{Among, IsWide, RiseAt, before, behind, chosen, first, first_alone}
+use Rattle.om_scope_laws.proofs.TokenBreaches.{further}
+use Rattle.om_scope_laws.proofs.TokenBreaches.{Rises, inserted, none, one, rise_at, rise_next, stands, together}
 
 -- ---- names
 
 -- S7, S9 and S13 at a name, as far as they are broken
-pub three : (start : ℕ) (undeclared misused unlisted : Bool) → RiseAt start 0 (breach_if undeclared faults.Undeclared start
-    ++ breach_if misused faults.Misuse start ++ breach_if unlisted faults.Unlisted start)
+pub three : (start : ℕ) (undeclared misused unlisted : Bool)
+    → RiseAt start 0 (breach_if undeclared faults.Undeclared start ++ breach_if misused faults.Misuse start
+    ++ breach_if unlisted faults.Unlisted start)
 three start undeclared misused unlisted =
     rise_at start 0 13 _
     (rise_next start 0 9 13 (breach_if undeclared faults.Undeclared start ++ breach_if misused faults.Misuse start)
@@ -154,7 +157,8 @@ pub misplaced_among : (scopes : Scopes) (e : ExpressionTree) → Among (misplace
 misplaced_among scopes e =
     at_begin (expression_start e) (expression_spelling e) (misplaced_breaches scopes e) (begins e)
     (rise_at (expression_start e) 0 9 (misplaced_breaches scopes e)
-    (rise_next (expression_start e) 0 7 9 (leading_breaches scopes e) (breach_if true faults.Misuse (expression_start e))
+    (rise_next (expression_start e) 0 7 9 (leading_breaches scopes e)
+    (breach_if true faults.Misuse (expression_start e))
     (leading_rises scopes e) (one true faults.Misuse (expression_start e) 7 9 (omega arith) (omega arith))))
 
 -- S11 at the first token of a value too many

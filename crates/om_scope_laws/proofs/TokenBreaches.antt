@@ -1,8 +1,9 @@
 -- Breaches that stand at tokens, in the order of these, and by their numbers at one token.
-use Rattle.std.proofs.Common.{◌≡◌, ◌≤◌, ◌<◌, ℕ, Bool, true, false, List, [], ◌∷◌, ◌++◌, refl, sym, ap, ◌∙◌, subst, arith}
+use Rattle.std.proofs.Common.{◌≡◌, ◌≤◌, ◌<◌, ℕ, Bool, true, false, List, [], ◌∷◌, ◌++◌, refl, sym, ap, ◌∙◌, subst}
+use Rattle.std.proofs.Common.{arith}
 use Rattle.std.proofs.Common.{append-nil, append_assoc}
 use Rattle.std.specs.Prelude.{nat_lt, nat_le, nat_eq, ◌&&◌, ◌||◌, if◌then◌else◌}
-use Rattle.std.proofs.lemmas.Bool.{leb-true, leb-false, ltb-true, ltb-false, lt-ltb, le-ltb, le-leb, eqb-true, eq-eqb}
+use Rattle.std.proofs.lemmas.Bool.{leb-true, leb-false, lt-ltb, le-ltb, le-leb, eqb-true, eq-eqb}
 use Rattle.om_lexer.specs.declared.fault.FaultCode.{FaultCode}
 use Rattle.om_lexer.specs.declared.fault.SourceFault.{SourceFault}
 use Rattle.om_lexer.specs.declared.token.Token.{Token}
@@ -10,10 +11,19 @@ use Rattle.om_lexer.specs.declared.token.TokenKind.{TokenKind}
 use Rattle.om_lexer.specs.declared.token.TokenKind.TheVariants as kinds
 use Rattle.om_lexer.specs.Faults.{number_of}
 use Rattle.om_lexer.specs.Order.{AreInOrder, HasWidth}
-use Rattle.om_scope_rules.proofs.Rising.{wide}
 use Rattle.om_scope_rules.specs.Faults.{breach_if, goes_first, with_breach}
 
 -- ---- tokens, one behind the other
+
+pub wide : (k : TokenKind) (from to : ℕ) → HasWidth k from to → from ≤ to
+wide kinds.DirectiveEnd from to h = omega arith
+wide kinds.End from to h = omega arith
+wide kinds.DirectiveBegin from to h = omega arith
+wide (kinds.Name text) from to h = omega arith
+wide (kinds.Constant value) from to h = omega arith
+wide (kinds.Keyword k) from to h = omega arith
+wide (kinds.Punctuator p) from to h = omega arith
+wide (kinds.Text characters) from to h = omega arith
 
 abbrev pub Ordered : ℕ → List Token → Type 0
 Ordered from [] = Unit {0}
@@ -87,7 +97,8 @@ from_lower start least other most (b ∷ bs) le h = let first = h.1 in (h.0, ome
 pub rise_next : (start least middle most : ℕ) (xs ys : List SourceFault) → Rises start least middle xs
     → Rises start middle most ys → Rises start least most (xs ++ ys)
 rise_next start least middle most [] ys h g = from_lower start least middle most ys h g
-rise_next start least middle most (x ∷ xs) ys h g = (h.0, h.1, rise_next start (number_of x.code) middle most xs ys h.2 g)
+rise_next start least middle most (x ∷ xs) ys h g =
+    (h.0, h.1, rise_next start (number_of x.code) middle most xs ys h.2 g)
 
 -- ---- breaches among tokens
 
@@ -107,46 +118,51 @@ along_before bs (t ∷ front) back h = (h.0, h.1, h.2, h.3, along_before h.1 fro
 along_together : (bs cs : List SourceFault) (front back : List Token) → Along bs front → Along cs back
     → Along (bs ++ cs) (front ++ back)
 along_together bs cs [] back h more = subst (λ z. Along (z ++ cs) back) (sym h) more
-along_together bs cs (t ∷ front) back h more =
-    (
-      h.0,
-      h.1 ++ cs,
-      ap (λ z. z ++ cs) h.2 ∙ append_assoc h.0 h.1 cs,
-      h.3,
-      along_together h.1 cs front back h.4 more,
-    )
+along_together bs cs (t ∷ front) back h more = (
+  h.0,
+  h.1 ++ cs,
+  ap (λ z. z ++ cs) h.2 ∙ append_assoc h.0 h.1 cs,
+  h.3,
+  along_together h.1 cs front back h.4 more,
+)
 
 -- where these tokens stand one behind the other, the breaches stand at them
-abbrev pub Among : List SourceFault → List Token → Type 0
-Among bs ts = (from : ℕ) → Ordered from ts → Along bs ts
+pub record Among (bs : List SourceFault) (ts : List Token) : Type 0 where
+  pub along : (from : ℕ) → Ordered from ts → Along bs ts
 
 pub none : (ts : List Token) → Among [] ts
-none ts = λ from o. along_none ts
+none ts = record { along = λ from o. along_none ts }
 
 pub further : (bs : List SourceFault) (t : Token) (ts : List Token) → Among bs ts → Among bs (t ∷ ts)
-further bs t ts h = λ from o. ([], bs, refl, tt, h t.span.end o.2)
+further bs t ts h = record { along = λ from o. ([], bs, refl, tt, h.along t.span.end o.2) }
 
 pub behind : (bs : List SourceFault) (front back : List Token) → Among bs back → Among bs (front ++ back)
 behind bs [] back h = h
 behind bs (t ∷ front) back h = further bs t (front ++ back) (behind bs front back h)
 
 pub before : (bs : List SourceFault) (front back : List Token) → Among bs front → Among bs (front ++ back)
-before bs front back h = λ from o. along_before bs front back (h from (ordered_front from front back o))
+before bs front back h = record {
+  along = λ from o. along_before bs front back (h.along from (ordered_front from front back o));
+}
 
 pub together : (bs cs : List SourceFault) (front back : List Token) → Among bs front → Among cs back
     → Among (bs ++ cs) (front ++ back)
-together bs cs front back h more = λ from o.
-    let rest = ordered_back from front back o in
-    along_together bs cs front back (h from (ordered_front from front back o)) (more rest.0 rest.2)
+together bs cs front back h more = record {
+  along = λ from o.
+      let rest = ordered_back from front back o in
+      along_together bs cs front back (h.along from (ordered_front from front back o)) (more.along rest.0 rest.2);
+}
 
 -- at the first token, and then at those behind it
 pub first : (here bs : List SourceFault) (t : Token) (ts : List Token) → StandAt t here → Among bs ts
     → Among (here ++ bs) (t ∷ ts)
-first here bs t ts stand h = λ from o. (here, bs, refl, stand, h t.span.end o.2)
+first here bs t ts stand h = record { along = λ from o. (here, bs, refl, stand, h.along t.span.end o.2) }
 
 -- at the first token alone
 pub first_alone : (here : List SourceFault) (t : Token) (ts : List Token) → StandAt t here → Among here (t ∷ ts)
-first_alone here t ts stand = λ from o. (here, [], sym (append-nil here), stand, along_none ts)
+first_alone here t ts stand = record {
+  along = λ from o. (here, [], sym (append-nil here), stand, along_none ts);
+}
 
 pub chosen : (b : Bool) (xs ys : List SourceFault) (ts : List Token) → Among xs ts → Among ys ts
     → Among (if b then xs else ys) ts
@@ -186,7 +202,7 @@ along_from from bs (t ∷ ts) o h =
     (from_more from t.span.end h.1 (omega (arith, start, width)) (along_from t.span.end h.1 ts o.2 h.4)))
 
 -- behind a token with a width
-is_wide : (k : TokenKind) (from to : ℕ) → IsWide k → HasWidth k from to → from < to
+pub is_wide : (k : TokenKind) (from to : ℕ) → IsWide k → HasWidth k from to → from < to
 is_wide kinds.DirectiveEnd from to w h = absurd w
 is_wide kinds.End from to w h = absurd w
 is_wide kinds.DirectiveBegin from to w h = h
@@ -241,16 +257,14 @@ insert_here b start least end (c ∷ here) rest at lt le h g =
         → nat_le (number_of c.code) (number_of b.code) ≡ no_more
         → Inserted b start least (c ∷ here) rest
     tested behind_it true true e same n =
-        let more = behind_it (leb-true (number_of c.code) (number_of b.code) n) in
-        (
+        let more = behind_it (leb-true (number_of c.code) (number_of b.code) n) in (
           c ∷ more.0,
           ap (λ z. if z then c ∷ with_breach b (here ++ rest) else b ∷ c ∷ (here ++ rest)) e
               ∙ ap (λ z. c ∷ z) more.1,
           (h.0, h.1, more.2),
         )
     tested behind_it false false e same n =
-        let above = leb-false (number_of c.code) (number_of b.code) n in
-        (
+        let above = leb-false (number_of c.code) (number_of b.code) n in (
           b ∷ c ∷ here,
           ap (λ z. if z then c ∷ with_breach b (here ++ rest) else b ∷ c ∷ (here ++ rest)) e,
           (at, le, (h.0, omega (arith, above), h.2)),
@@ -264,12 +278,14 @@ rise_of t (b ∷ bs) h = h.1
 
 pub inserted : (b : SourceFault) (bs : List SourceFault) (t : Token) (ts : List Token) → b.at ≡ t.span.start
     → IsWide t.kind → Among bs (t ∷ ts) → Among (with_breach b bs) (t ∷ ts)
-inserted b bs t ts at w h = λ from o.
-    let a = h from o in
-    let lt = is_wide t.kind t.span.start t.span.end w o.1 in
-    let new = insert_here b t.span.start 0 t.span.end a.0 a.1 at lt (omega arith) (rise_of t a.0 a.3)
-    (along_from t.span.end a.1 ts o.2 a.4) in
-    (new.0, a.1, ap (λ z. with_breach b z) a.2 ∙ new.1, stands t new.0 w new.2, a.4)
+inserted b bs t ts at w h = record {
+  along = λ from o.
+      let a = h.along from o in
+      let lt = is_wide t.kind t.span.start t.span.end w o.1 in
+      let new = insert_here b t.span.start 0 t.span.end a.0 a.1 at lt (omega arith) (rise_of t a.0 a.3)
+      (along_from t.span.end a.1 ts o.2 a.4) in
+      (new.0, a.1, ap (λ z. with_breach b z) a.2 ∙ new.1, stands t new.0 w new.2, a.4);
+}
 
 -- ---- the first is the least
 
@@ -316,8 +332,7 @@ led_along from bs (t ∷ ts) o h =
     led behind_it [] rest s a = behind_it rest a
     led behind_it (b ∷ here) rest s a =
         let lt = is_wide t.kind t.span.start t.span.end s.0 o.1 in
-        let at = s.1.0 in
-        (
+        let at = s.1.0 in (
           itself b,
           before_rising b t.span.start (number_of b.code) here rest s.1.0 (omega arith) s.1.2
               (before_from b t.span.end rest (omega (arith, at, lt)) (along_from t.span.end rest ts o.2 a)),
@@ -369,7 +384,7 @@ led_join (b ∷ bs) cs end led below from more = joined b (b ∷ bs) cs led (bef
 pub led_last : (bs : List SourceFault) (ts : List Token) (last : Token) (broken : Bool) (code : FaultCode)
     → Ordered 0 (ts ++ last ∷ []) → Among bs ts → IsLed (bs ++ breach_if broken code last.span.start)
 led_last bs ts last broken code o h =
-    let a = h 0 (ordered_front 0 ts (last ∷ []) o) in
+    let a = h.along 0 (ordered_front 0 ts (last ∷ []) o) in
     led_join bs (breach_if broken code last.span.start) last.span.start
     (led_along 0 bs ts (ordered_front 0 ts (last ∷ []) o) a) (below_along 0 bs ts last o a) (from_last broken)
     (last_led broken)

@@ -1,8 +1,9 @@
 -- The breaches of what a loop begins with, and of its bounds, stand at the tokens of its head, in their order.
-use Rattle.std.proofs.Common.{◌≡◌, ℕ, Bool, true, false, List, [], ◌∷◌, ◌++◌, Option, None, Some, refl, sym, ap, subst, arith}
+use Rattle.std.proofs.Common.{◌≡◌, ℕ, Bool, true, false, List, [], ◌∷◌, ◌++◌, Option, None, Some, refl, sym, subst}
+use Rattle.std.proofs.Common.{arith}
 use Rattle.std.proofs.Common.{append-nil, append_assoc, ◌∙◌}
 use Rattle.std.specs.List.{flat_map}
-use Rattle.std.specs.Prelude.{IfSome, not, if◌then◌else◌, map}
+use Rattle.std.specs.Prelude.{IfSome, not, if◌then◌else◌}
 use Rattle.om_lexer.specs.declared.fault.FaultCode.TheVariants as faults
 use Rattle.om_lexer.specs.declared.fault.SourceFault.{SourceFault}
 use Rattle.om_lexer.specs.declared.token.Span.{Span}
@@ -12,7 +13,8 @@ use Rattle.om_parser_tree.specs.declared.tree.ArrayLength.{ArrayLength}
 use Rattle.om_parser_tree.specs.declared.tree.AssignOperator.{AssignOperator}
 use Rattle.om_parser_tree.specs.declared.tree.AssignOperator.TheVariants as assigns
 use Rattle.om_parser_tree.specs.declared.tree.BinaryOperator.{BinaryOperator}
-use Rattle.om_parser_tree.specs.Spelling.{array_spelling, declaration_spelling, declarator_spelling, expression_spelling}
+use Rattle.om_parser_tree.specs.Spelling.{array_spelling, declaration_spelling, declarator_spelling}
+use Rattle.om_parser_tree.specs.Spelling.{expression_spelling}
 use Rattle.om_parser_tree.specs.Spelling.{for_head_spelling, for_start_spelling, further_spelling, initializer_spelling}
 use Rattle.om_parser_tree.specs.Spelling.{local_spelling, perhaps}
 use Rattle.om_parser_tree.specs.Tree.{ExpressionTree, Name, Constant, Text, Paren, Index, Call, Prefix, Postfix, Binary}
@@ -20,19 +22,20 @@ use Rattle.om_parser_tree.specs.Tree.{Conditional, Assign, DeclaratorTree, Decla
 use Rattle.om_parser_tree.specs.Tree.{InitializerTree, Nothing, StartExpression, StartDeclaration}
 use Rattle.om_scope_rules.specs.declared.canonical.Step.{Step}
 use Rattle.om_scope_rules.specs.ExpressionRules.{expression_breaches, is_scalar, is_undeclared}
-use Rattle.om_scope_rules.specs.Faults.{breach_if, breaches_along}
 use Rattle.om_scope_rules.specs.Loops.{Bound, Loop, LoopStart, assigned_start, bound_of, compared, comparison_direction}
-use Rattle.om_scope_rules.specs.Loops.{declared_start, initialized_start, is_named, loop_of, loop_to, name_in, same_direction}
+use Rattle.om_scope_rules.specs.Loops.{declared_start, initialized_start, is_named, loop_of, loop_to, name_in}
+use Rattle.om_scope_rules.specs.Loops.{same_direction}
 use Rattle.om_scope_rules.specs.Loops.{set_start, start_of, step_in}
 use Rattle.om_scope_rules.specs.Scopes.{Scopes, after_local, behind_commas, declarators_of, is_declared, meaning_of}
-use Rattle.om_scope_rules.specs.StatementRules.{after_for_start, array_size_breaches, for_start_breaches, for_turn_breaches}
+use Rattle.om_scope_rules.specs.StatementRules.{after_for_start, array_size_breaches, for_start_breaches}
+use Rattle.om_scope_rules.specs.StatementRules.{for_turn_breaches}
 use Rattle.om_scope_rules.specs.StatementRules.{found_breaches, initializer_breaches, is_empty_array, local_breaches}
 use Rattle.om_scope_rules.specs.StatementRules.{locals_breaches, perhaps_breaches, redeclared_breaches, values_breaches}
 use Rattle.om_scope_rules.specs.StatementRules.{variable_breaches, with_iteration}
-use Rattle.om_scope_rules.proofs.ExpressionBreaches.{expression_among, named, named_alone, two}
-use Rattle.om_scope_rules.proofs.Steps.{if_either, if_then}
-use Rattle.om_scope_rules.proofs.StepsFrom.{if_behind, if_weaker}
-use Rattle.om_scope_rules.proofs.TokenBreaches.{Among, RiseAt, before, behind, further, none, one, rise_at, rise_next, together}
+use Rattle.om_scope_laws.proofs.ExpressionBreaches.{expression_among, named, named_alone, two}
+use Rattle.om_scope_laws.proofs.Perhaps.{if_behind, if_either, if_then, if_weaker}
+use Rattle.om_scope_laws.proofs.TokenBreaches.{Among, RiseAt, before, behind, further, none, one, rise_at, rise_next}
+use Rattle.om_scope_laws.proofs.TokenBreaches.{together}
 
 -- ---- declarations
 
@@ -198,8 +201,9 @@ loop_start_among (StartExpression e semicolon) =
     (λ start h. λ scopes inner. before _ own _ (h scopes inner))
 loop_start_among (StartDeclaration d) =
     let own = declarator_spelling expression_spelling d.first in
+    let tail = flat_map (further_spelling expression_spelling) d.rest in
     if_weaker (StartAmong own) (StartAmong (for_start_spelling (StartDeclaration d))) _ (declared_among d.first d.rest)
-    (λ start h. λ scopes inner. further _ _ _ (before _ own _ (h scopes inner)))
+    (λ start h. λ scopes inner. further _ _ _ (before _ (own ++ tail) _ (before _ own tail (h scopes inner))))
 
 -- the bound
 abbrev ToAmong : List Token → Bound → Type 0
