@@ -7,7 +7,7 @@ use Rattle.std.proofs.sync.ledger.Book.TheSendSync as calls
 use Rattle.std.proofs.sync.ledger.Share.TheSendSync as share
 use Rattle.om_undo.specs.Crossing.{machine_send}
 use Rattle.om_undo.specs.Names.{name_send, object_send}
-use Rattle.om_book.specs.Replies.{step_send, undo_send, roll_send, names_send, entries_send}
+use Rattle.om_book.specs.Replies.{step_send, undo_send, roll_send, names_send, first_send, entries_send}
 use Rattle.om_undo.specs.Values.{value_send}
 use Rattle.om_book.specs.contracts.book.Book as book
 use Rattle.om_book_journal.specs.contracts.journal.JournalRecord as kept
@@ -24,7 +24,7 @@ command_send = search (name_send, object_send, crosses, sendable) depth 40
 
 reply_send : IsSend reply.the_field.row
 reply_send =
-    search (step_send, undo_send, roll_send, value_send, names_send, entries_send, sendable) depth 40
+    search (step_send, undo_send, roll_send, value_send, names_send, first_send, entries_send, sendable) depth 40
 
 record_send : IsSend kept.the_row
 record_send = search (step_send, undo_send, command_send, reply_send, crosses, sendable) depth 40

@@ -1,12 +1,12 @@
 //! The book: a machine beside the journal of all calls that it answered.
 
-ghost use Rattle.std.specs.Prelude.{◌≡◌, ◌<◌, ◌≤◌, ◌^◌, ◌++◌, ◌∷◌, [], ◌↔◌, IfOk, IfErr, OnOk, OnErr, drop, length, vec_capacity, Some};
-ghost use Rattle.om_book_journal.specs.Runs.{IsInRange, IsReply, after, fresh, reply_to, step_command};
-ghost use Rattle.om_book_journal.specs.Journals.{IsLegal, IsSound, done_in};
+ghost use Rattle.std.specs.Prelude.{◌≡◌, ◌<◌, ◌≤◌, ◌^◌, ◌++◌, ◌∷◌, [], ◌↔◌, IfOk, IfErr, IfSome, OnOk, OnErr, drop, length, vec_capacity, Some, true};
+ghost use Rattle.om_book_journal.specs.Runs.{IsInRange, IsReply, after, asks_for_list, fresh, reply_to, step_command};
+ghost use Rattle.om_book_journal.specs.Journals.{IsLegal, IsSound, done_in, last_asked, last_told};
 ghost use Rattle.om_book_journal.specs.Records.{reply_in};
 ghost use Rattle.om_book.specs.Books.{is_full, last_reply, machine_of, history_left, records_of, with_call, with_record};
 ghost use Rattle.om_book.specs.Books.{AddsCall, AddsRecord, AddsStep, AddsUndo};
-ghost use Rattle.om_undo.specs.Machines.{step_reply};
+ghost use Rattle.om_undo.specs.Machines.{MachineView, step_reply};
 
 use om_book_journal::replies::{done, done_thrice, let_go, undo};
 use om_book_journal::{Asked, Command, JournalRecord, Reply, ReplyIn, done_in};
@@ -254,6 +254,57 @@ impl Book {
     }
 }
 
+// The reply to the last call, where that was this very question for a list: no call has changed anything since.
+fn told_again<'a>(journal: &'a [JournalRecord], command: &Command) -> Option<&'a Reply>
+    ensures list { IfSome result (λ x. asks_for_list command.now ≡ true) }
+    ensures asked { IfSome result (λ x. Some command.now ≡ last_asked journal.now) }
+    ensures told { IfSome result (λ x. Some x.now ≡ last_told journal.now) }
+{
+    match journal.last() {
+        Some(answered) => answered.told_again(command),
+        None => None,
+    }
+}
+
+// That reply once more, which shares the list of the record. Its only error is out of memory.
+fn again(
+    alloc: Global,
+    machine: &Machine,
+    journal: &[JournalRecord],
+    command: &Command,
+) -> AllocResult<Option<Reply>>
+    requires { (start : MachineView) × IsSound machine.now start journal.now }
+    ensures reply { IfOk result (λ told. IfSome told (λ x. IsReply machine.now command.now x)) }
+    ensures same { IfOk result (λ told. IfSome told
+        (λ x. machine.now ≡ after machine.now command.now)) }
+{
+    let Some(told) = told_again(journal, command) else {
+        return Ok(None);
+    };
+    let reply = told.copy(alloc)?;
+    Ok(Some(reply))
+}
+
+// Does what a command asks. When out of memory, nothing changes.
+fn answered(
+    alloc: Global,
+    machine: &mut Machine,
+    journal: &[JournalRecord],
+    command: &Command,
+) -> AllocResult<Reply>
+    requires in_range { IsInRange machine.old.workers command.now }
+    requires few_made { machine.old.history.made < 2 ^ 63 }
+    requires sound { (start : MachineView) × IsSound machine.old start journal.now }
+    ensures reply { IfOk result (λ x. IsReply machine.old command.now x) }
+    ensures after { OnOk result (machine.new ≡ after machine.old command.now) }
+    ensures unchanged_on_error { OnErr result (machine.new ≡ machine.old) }
+{
+    match again(alloc, machine, journal, command)? {
+        Some(reply) => Ok(reply),
+        None => done(alloc, machine, command),
+    }
+}
+
 // Does what a command asks, and adds its record. When out of memory, nothing changes.
 fn append_call(
     alloc: Global,
@@ -264,6 +315,7 @@ fn append_call(
 ) -> AllocResult<()>
     requires in_range { IsInRange machine.old.workers command.now }
     requires few_made { machine.old.history.made < 2 ^ 63 }
+    requires sound { (start : MachineView) × IsSound machine.old start journal.old.items }
     ensures machine { OnOk result (machine.new ≡ after machine.old command.now) }
     ensures journal { OnOk result (AddsCall machine.old seat command.now journal.old journal.new) }
     ensures unchanged_machine { OnErr result (machine.new ≡ machine.old) }
@@ -271,7 +323,7 @@ fn append_call(
 {
     journal.reserve(1)?;
     let asked = Asked::of(alloc, command)?;
-    let reply = done(alloc, machine, command)?;
+    let reply = answered(alloc, machine, journal.as_slice(), command)?;
     journal.push_reserved(JournalRecord::of(seat, asked, reply));
     Ok(())
 }

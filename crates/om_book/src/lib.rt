@@ -25,7 +25,7 @@ mod session;
 pub use backing::{KeptAnswers, Rows, keep_backed};
 pub use book::{Book, CallError, MAX_RECORDS};
 pub use om_book_journal::{
-    Command, JournalRecord, KeptCommand, KeptUndoReply, Query, Reply, ReplyIn,
+    Command, JournalRecord, KeptCommand, KeptEntry, KeptName, KeptUndoReply, Query, Reply, ReplyIn,
 };
 pub use order::{Answer, Fault, Order};
 pub use receipt::Receipt;

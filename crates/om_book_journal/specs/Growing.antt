@@ -1,6 +1,6 @@
 -- Matter of proofs, for crates with books: a journal that grows by one record.
-use Rattle.std.specs.Prelude.{◌≡◌, ◌≤◌, ◌<◌, ◌+◌, ℕ, List, [], ◌∷◌, ◌++◌, length, refl, Option, Some, None}
-use Rattle.std.proofs.Common.{sym, ◌∙◌, ◌-◌, ap, subst, arith, take, drop, take_all, length-append, length-drop}
+use Rattle.std.specs.Prelude.{◌≡◌, ◌≤◌, ◌<◌, ◌+◌, ◌-◌, ℕ, suc, true, List, [], ◌∷◌, ◌++◌, length, refl, Option, Some, None, option_map, slice_get}
+use Rattle.std.proofs.Common.{sym, ◌∙◌, ap, subst, arith, take, drop, take_all, length-append, length-drop}
 use Rattle.om_state.specs.declared.step.Entry.{Entry}
 use Rattle.om_state.specs.declared.step.Label.{Label}
 use Rattle.om_state.specs.declared.step.Step.{Step}
@@ -16,8 +16,8 @@ use Rattle.om_book_journal.specs.declared.command.Command.{Command}
 use Rattle.om_book_journal.specs.declared.command.Command.TheVariants as command
 use Rattle.om_book_journal.specs.declared.reply.Reply.{Reply}
 use Rattle.om_book_journal.specs.Records.{JournalRecord}
-use Rattle.om_book_journal.specs.Runs.{IsReply, after, history_behind}
-use Rattle.om_book_journal.specs.Journals.{IsLegal, IsSound, left_by}
+use Rattle.om_book_journal.specs.Runs.{IsReply, after, asks_for_list, history_behind, reply_to}
+use Rattle.om_book_journal.specs.Journals.{IsLegal, IsSound, last_asked, last_told, left_by}
 
 pub left_by-snoc : (m : MachineView) (rs : List JournalRecord) (r : JournalRecord)
     → left_by m (rs ++ r ∷ []) ≡ after (left_by m rs) r.command
@@ -77,6 +77,49 @@ sound_next m next start rs js seat c x h room is answered grows =
 pub sound_same : (m next start : MachineView) (rs js : List JournalRecord) → IsSound m start rs
     → next ≡ m → js ≡ rs → IsSound next start js
 sound_same m next start rs js h same none = rw (same, none) h
+
+-- a question for a list leaves all as it was
+pub list_leaves : (m : MachineView) (c : Command) → asks_for_list c ≡ true → after m c ≡ m
+list_leaves m (command.Step worker choice) asks = absurd cc
+list_leaves m (command.Undo worker) asks = absurd cc
+list_leaves m (command.Roll serial) asks = absurd cc
+list_leaves m (command.Look question) asks = refl
+
+told_still : (m : MachineView) (r : JournalRecord) → asks_for_list r.command ≡ true → IsReply m r.command r.reply
+    → r.reply ≡ reply_to (after m r.command) r.command
+told_still m r asks is = is ∙ ap (λ p. reply_to p r.command) (sym (list_leaves m r.command asks))
+
+answer_of_last : (m : MachineView) (rs : List JournalRecord) (r : JournalRecord)
+    → slice_get rs (length rs - 1) ≡ Some r → asks_for_list r.command ≡ true → IsLegal m rs
+    → r.reply ≡ reply_to (left_by m rs) r.command
+answer_of_last m [] r at asks h = absurd cc
+answer_of_last m (x ∷ []) r at asks h =
+    let is : x ≡ r = cc in
+    subst (λ (k : JournalRecord). k.reply ≡ reply_to (after m x.command) k.command) is
+    (told_still m x (subst (λ (k : JournalRecord). asks_for_list k.command ≡ true) (sym is) asks) h.0)
+answer_of_last m (x ∷ y ∷ rs) r at asks h =
+    let e : length (x ∷ y ∷ rs) - 1 ≡ suc (length (y ∷ rs) - 1) = omega arith in
+    answer_of_last (after m x.command) (y ∷ rs) r (subst (λ i. slice_get (x ∷ y ∷ rs) i ≡ Some r) e at) asks h.1
+
+told_at : (m start : MachineView) (rs : List JournalRecord) (o : Option JournalRecord) (c : Command) (x : Reply)
+    → IsSound m start rs → slice_get rs (length rs - 1) ≡ o → asks_for_list c ≡ true
+    → Some c ≡ option_map (λ (r : JournalRecord). r.command) o
+    → Some x ≡ option_map (λ (r : JournalRecord). r.reply) o → x ≡ reply_to m c
+told_at m start rs None c x h at asks asked told = absurd cc
+told_at m start rs (Some r) c x h at asks asked told =
+    let is : c ≡ r.command = cc in
+    let same : x ≡ r.reply = cc in
+    same
+    ∙ answer_of_last start rs r at (subst (λ k. asks_for_list k ≡ true) is asks) h.legal
+    ∙ ap (λ k. reply_to (left_by start rs) k) (sym is)
+    ∙ ap (λ p. reply_to p c) (sym h.left)
+
+-- where the last call was this very question for a list, its answer is still the right one
+pub told_again : (m start : MachineView) (rs : List JournalRecord) (c : Command) (x : Reply)
+    → IsSound m start rs → asks_for_list c ≡ true → Some c ≡ last_asked rs → Some x ≡ last_told rs
+    → x ≡ reply_to m c
+told_again m start rs c x h asks asked told =
+    told_at m start rs (slice_get rs (length rs - 1)) c x h refl asks asked told
 
 -- the records from a place on
 pub slice_to_end : (rs : List JournalRecord) (at : ℕ) → take (length rs - at) (drop at rs) ≡ drop at rs

@@ -33,6 +33,7 @@ command_in (parts.Undo worker) = command.Undo worker
 command_in (parts.Roll serial) = command.Roll serial
 command_in (parts.Value q) = command.Look (query.Value (object_in q))
 command_in parts.Ready = command.Look query.Ready
+command_in parts.FirstReady = command.Look query.FirstReady
 command_in parts.Entries = command.Look query.Entries
 
 -- the reply of these parts

@@ -1,6 +1,8 @@
 pub mod Runs
 pub mod Journals
 pub mod Kept
+pub mod Names
+pub mod Entries
 pub mod Records
 pub mod Histories
 pub mod Growing

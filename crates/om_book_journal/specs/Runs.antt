@@ -1,5 +1,5 @@
 -- What a machine of one thread replies to a command, and what the command leaves.
-use Rattle.std.specs.Prelude.{◌≡◌, ◌<◌, ℕ, Bool, true, false}
+use Rattle.std.specs.Prelude.{◌≡◌, ◌<◌, ℕ, Bool, true, false, slice_get}
 use Rattle.om_code.specs.declared.raw.Raw.{Raw}
 use Rattle.om_state.specs.declared.step.Label.{Label}
 use Rattle.om_undo_history.specs.declared.reply.StepReply.TheVariants as step_reply
@@ -29,10 +29,21 @@ IsInRange workers (command.Undo worker) = worker < workers
 IsInRange workers (command.Roll serial) = Unit {0}
 IsInRange workers (command.Look question) = Unit {0}
 
+-- the command asks for a list: which tasks are ready, or which entries stand
+abbrev pub asks_for_list : Command → Bool
+asks_for_list (command.Step worker choice) = false
+asks_for_list (command.Undo worker) = false
+asks_for_list (command.Roll serial) = false
+asks_for_list (command.Look (query.Value object)) = false
+asks_for_list (command.Look query.Ready) = true
+asks_for_list (command.Look query.FirstReady) = false
+asks_for_list (command.Look query.Entries) = true
+
 -- what is answered to a question
 abbrev pub answer_to : MachineView → Query → Reply
 answer_to m (query.Value object) = reply.Value (state_in m object)
 answer_to m query.Ready = reply.Ready (ready_names m)
+answer_to m query.FirstReady = reply.FirstReady (slice_get (ready_names m) 0)
 answer_to m query.Entries = reply.Entries m.history.entries
 
 -- what is replied to a command: by the definition of a run, and to a question its answer

@@ -1,7 +1,7 @@
 //! What a seat asks of the machine.
 
-ghost use Rattle.std.specs.Prelude.{◌↔◌, IsTrue};
-ghost use Rattle.om_book_journal.specs.Runs.{IsInRange};
+ghost use Rattle.std.specs.Prelude.{◌≡◌, ◌↔◌, IsTrue};
+ghost use Rattle.om_book_journal.specs.Runs.{IsInRange, asks_for_list};
 
 use crate::same::Same;
 use om_foot::Obj;
@@ -14,6 +14,8 @@ pub enum Query {
     Value(Obj),
     /// The names of the tasks that are ready to be begun, ascending.
     Ready,
+    /// The name of the first of these tasks, where there is one.
+    FirstReady,
     /// The entries that stand in the history, in their order.
     Entries,
 }
@@ -41,6 +43,21 @@ impl Command {
             Command::Undo(worker) => *worker < workers,
             Command::Roll(_) => true,
             Command::Look(_) => true,
+        }
+    }
+
+    /// Whether it asks for a list: which tasks are ready, or which entries stand.
+    pub fn asks_for_list(&self) -> bool
+        ensures { result ≡ asks_for_list self.now }
+    {
+        match self {
+            Command::Step { .. } => false,
+            Command::Undo(_) => false,
+            Command::Roll(_) => false,
+            Command::Look(Query::Value(_)) => false,
+            Command::Look(Query::Ready) => true,
+            Command::Look(Query::FirstReady) => false,
+            Command::Look(Query::Entries) => true,
         }
     }
 }

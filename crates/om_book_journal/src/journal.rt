@@ -1,10 +1,10 @@
 //! Records of a journal: calls that were answered.
 
-ghost use Rattle.std.specs.Prelude.{◌≡◌, ◌≤◌, ◌+◌, ◌↔◌, length, IfOk, IsTrue};
+ghost use Rattle.std.specs.Prelude.{◌≡◌, ◌≤◌, ◌+◌, ◌↔◌, length, IfOk, IfNone, IfSome, IsTrue, true};
 ghost use Rattle.om_undo.specs.Machines.{MachineView};
 ghost use Rattle.om_book_journal.specs.Journals.{done_in};
 ghost use Rattle.om_book_journal.specs.Records.{asked_in, record_in, reply_in};
-ghost use Rattle.om_book_journal.specs.Runs.{IsReply, is_step_made};
+ghost use Rattle.om_book_journal.specs.Runs.{IsReply, asks_for_list, is_step_made};
 
 use crate::command::Command;
 use crate::kept::{KeptCommand, KeptUndoReply};
@@ -248,6 +248,23 @@ impl JournalRecord {
             RecordForms::Undo { .. } => false,
             RecordForms::Other { call, .. } => call.reply.is_step_made(),
         }
+    }
+
+    /// The reply, where this command asks for a list and is what was asked.
+    pub fn told_again(&self, command: &Command) -> Option<&Reply>
+        ensures told { IfSome result (λ x. x.now ≡ self.now.reply) }
+        ensures asked { IfSome result (λ x. self.now.command ≡ command.now) }
+        ensures list { IfSome result (λ x. asks_for_list command.now ≡ true) }
+        ensures none { IfNone result (asks_for_list command.now ≡ true
+            → self.now.command ≡ command.now → ⊥) }
+    {
+        let RecordForms::Other { call, .. } = &self.forms else {
+            return None;
+        };
+        if command.asks_for_list() && call.command.get().is_same(command) {
+            return Some(&call.reply);
+        }
+        None
     }
 
     /// Whether this reply was given.

@@ -68,6 +68,7 @@ enum CommandParts {
     Roll(u64),
     Value(ObjectParts),
     Ready,
+    FirstReady,
     Entries,
 }
 
@@ -120,6 +121,7 @@ fn parts_of(alloc: Global, command: &Command) -> AllocResult<CommandParts>
             Ok(CommandParts::Value(object_parts_of(alloc, object)?))
         }
         Command::Look(Query::Ready) => Ok(CommandParts::Ready),
+        Command::Look(Query::FirstReady) => Ok(CommandParts::FirstReady),
         Command::Look(Query::Entries) => Ok(CommandParts::Entries),
     }
 }
@@ -160,6 +162,7 @@ impl KeptCommand {
             CommandParts::Roll(serial) => Command::Roll(*serial),
             CommandParts::Value(object) => Command::Look(Query::Value(object.get())),
             CommandParts::Ready => Command::Look(Query::Ready),
+            CommandParts::FirstReady => Command::Look(Query::FirstReady),
             CommandParts::Entries => Command::Look(Query::Entries),
         }
     }

@@ -1,13 +1,17 @@
 //! The machine's reply to a command, once or three times: copies that take memory are made before
 //! anything changes.
 
-ghost use Rattle.std.specs.Prelude.{◌≡◌, ◌<◌, ◌^◌, IfOk, IfSome, IsNone, OnOk, OnErr, true};
+ghost use Rattle.std.specs.Prelude.{◌≡◌, ◌<◌, ◌^◌, IfOk, IfSome, IsNone, OnOk, OnErr, slice_get, true};
 ghost use Rattle.om_book_journal.specs.Kept.{is_conflict};
 ghost use Rattle.om_book_journal.specs.Runs.{IsInRange, IsReply, after, answer_to};
+ghost use Rattle.om_undo.specs.ReadyNames.{ready_names};
 
 use crate::command::{Command, Query};
+use crate::entry::kept_entries;
 use crate::kept::KeptUndoReply;
+use crate::name::{KeptName, kept_names};
 use crate::reply::Reply;
+use om_foot::{Name, Shared};
 use om_seq::{AllocResult, Seq};
 use om_undo::laws::{one_ready_list, ready_names_are_ready};
 use om_undo::{Machine, PlannedStep, RollReply, StepReply, Taken, UndoReply};
@@ -192,11 +196,54 @@ fn two_copies(alloc: Global, reply: &Reply) -> AllocResult<(Reply, Reply)>
 fn looked(alloc: Global, machine: &Machine, query: &Query) -> AllocResult<Reply>
     ensures { IfOk result (λ x. x ≡ answer_to machine.now query.now) }
 {
-    one_ready_list();
-    ready_names_are_ready();
     match query {
         Query::Value(object) => Ok(Reply::Value(machine.look(alloc, object)?)),
-        Query::Ready => Ok(Reply::Ready(Seq::of(machine.ready(alloc)?))),
-        Query::Entries => Ok(Reply::Entries(Seq::of(machine.history(alloc)?))),
+        Query::Ready => names_told(alloc, machine),
+        Query::FirstReady => Ok(Reply::FirstReady(shared_name(alloc, first_ready(machine))?)),
+        Query::Entries => entries_told(alloc, machine),
+    }
+}
+
+// Answers which entries stand.
+fn entries_told(alloc: Global, machine: &Machine) -> AllocResult<Reply>
+    ensures { IfOk result (λ x. x ≡ Reply.Entries machine.now.history.entries) }
+{
+    let entries = machine.history(alloc)?;
+    let kept = kept_entries(alloc, entries.as_slice())?;
+    Ok(Reply::Entries(Shared::of(alloc, kept)?))
+}
+
+// Answers which tasks are ready.
+fn names_told(alloc: Global, machine: &Machine) -> AllocResult<Reply>
+    ensures { IfOk result (λ x. x ≡ Reply.Ready (ready_names machine.now)) }
+{
+    let names = ready_list(alloc, machine)?;
+    let kept = kept_names(alloc, names.as_slice())?;
+    Ok(Reply::Ready(Shared::of(alloc, kept)?))
+}
+
+// The names of the tasks that are ready. Its only error is out of memory.
+fn ready_list(alloc: Global, machine: &Machine) -> AllocResult<Vec<Name>>
+    ensures { IfOk result (λ names. names.items ≡ ready_names machine.now) }
+{
+    one_ready_list();
+    ready_names_are_ready();
+    machine.ready(alloc)
+}
+
+// The name of the first task that is ready, where there is one.
+fn first_ready(machine: &Machine) -> Option<Name>
+    ensures { result ≡ slice_get (ready_names machine.now) 0 }
+{
+    machine.next_ready(None)
+}
+
+// A name to be shared, where there is one. Its only error is out of memory.
+fn shared_name(alloc: Global, name: Option<Name>) -> AllocResult<Option<Shared<KeptName>>>
+    ensures { IfOk result (λ shared. shared ≡ name) }
+{
+    match name {
+        Some(name) => Ok(Some(Shared::of(alloc, KeptName::of(alloc, &name)?)?)),
+        None => Ok(None),
     }
 }

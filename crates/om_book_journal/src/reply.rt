@@ -5,15 +5,18 @@ ghost use Rattle.om_undo_history.specs.declared.reply.StepReply.{StepReply as St
 ghost use Rattle.om_undo_history.specs.declared.reply.UndoReply.{UndoReply};
 ghost use Rattle.om_book_journal.specs.Runs.{is_step_made};
 
+use crate::entry::KeptEntry;
 use crate::kept::KeptUndoReply;
+use crate::name::KeptName;
 use crate::same::Same;
-use om_foot::Name;
+use om_foot::Shared;
 use om_seq::{AllocResult, Seq};
 use om_state::Val;
-use om_undo::{Entry, RollReply, StepReply};
+use om_undo::{RollReply, StepReply};
 use std::alloc::Global;
 
-/// What is answered to a command: to each kind its own kind of reply.
+/// What is answered to a command: to each kind its own kind of reply. Its copies share names of tasks, and
+/// lists of names or of entries.
 pub enum Reply {
     /// Of a step.
     Step(StepReply),
@@ -24,9 +27,11 @@ pub enum Reply {
     /// What the object holds.
     Value(Val),
     /// The names of the tasks that are ready to be begun, ascending.
-    Ready(Seq<Name>),
+    Ready(Shared<Seq<KeptName>>),
+    /// The name of the first of these tasks, where there is one.
+    FirstReady(Option<Shared<KeptName>>),
     /// The entries that stand in the history, in their order.
-    Entries(Seq<Entry>),
+    Entries(Shared<Seq<KeptEntry>>),
 }
 
 // By hand: other crates call this, and do not prove anew how each part is dropped.
@@ -38,6 +43,7 @@ impl Drop for Reply {
             Reply::Roll(reply) => drop(reply),
             Reply::Value(value) => drop(value),
             Reply::Ready(names) => drop(names),
+            Reply::FirstReady(first) => drop(first),
             Reply::Entries(entries) => drop(entries),
         }
     }
@@ -82,9 +88,20 @@ impl Reply {
             Reply::Undo(reply) => Ok(Reply::Undo(KeptUndoReply::of(alloc, &reply.get())?)),
             Reply::Roll(reply) => Ok(Reply::Roll(copy_roll(alloc, reply)?)),
             Reply::Value(value) => Ok(Reply::Value(value.copy(alloc)?)),
-            Reply::Ready(names) => Ok(Reply::Ready(copied(alloc, names)?)),
-            Reply::Entries(entries) => Ok(Reply::Entries(copied(alloc, entries)?)),
+            Reply::Ready(names) => Ok(Reply::Ready(names.copy()?)),
+            Reply::FirstReady(first) => Ok(Reply::FirstReady(copy_first(first)?)),
+            Reply::Entries(entries) => Ok(Reply::Entries(entries.copy()?)),
         }
+    }
+}
+
+// A name for one owner more, where there is one; its only error is out of memory.
+fn copy_first(first: &Option<Shared<KeptName>>) -> AllocResult<Option<Shared<KeptName>>>
+    ensures { IfOk result (λ copy. copy ≡ first.now) }
+{
+    match first {
+        Some(name) => Ok(Some(name.copy()?)),
+        None => Ok(None),
     }
 }
 
@@ -113,6 +130,7 @@ impl Same for Reply {
             (Reply::Roll(one), Reply::Roll(two)) => one.is_same(two),
             (Reply::Value(one), Reply::Value(two)) => one.is_same(two),
             (Reply::Ready(one), Reply::Ready(two)) => one.is_same(two),
+            (Reply::FirstReady(one), Reply::FirstReady(two)) => one.is_same(two),
             (Reply::Entries(one), Reply::Entries(two)) => one.is_same(two),
             _ => false,
         }

@@ -35,12 +35,12 @@ own_step worker at choice x now before e =
     own_behind worker now before (record { place = at; command = command.Step worker choice; reply = x }) e
     (same_number worker)
 
--- the question which tasks are ready
+-- the question which task is the first that is ready
 pub own_look : (worker at : ℕ) (x : Reply) (now before : List Receipt) → now
-    ≡ before ++ record { place = at; command = command.Look query.Ready; reply = x } ∷ []
+    ≡ before ++ record { place = at; command = command.Look query.FirstReady; reply = x } ∷ []
     → others_in worker now ≡ others_in worker before
 own_look worker at x now before e =
-    own_behind worker now before (record { place = at; command = command.Look query.Ready; reply = x }) e refl
+    own_behind worker now before (record { place = at; command = command.Look query.FirstReady; reply = x }) e refl
 
 others_last : (worker : ℕ) (xs : List (List Receipt)) (x : List Receipt) → others_from worker (xs ++ x ∷ [])
     ≡ others_from worker xs ++ others_in (worker + length xs) x ∷ []

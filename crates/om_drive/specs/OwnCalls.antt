@@ -8,10 +8,10 @@ use Rattle.om_book_journal.specs.declared.command.Query.TheVariants as query
 use Rattle.om_book.specs.Seats.{SeatView}
 use Rattle.om_book.specs.declared.receipt.Receipt.{Receipt}
 
--- a worker's own call: a step of its own, or the question which tasks are ready
+-- a worker's own call: a step of its own, or the question which task is the first that is ready
 abbrev pub is_own_call : ℕ → Command → Bool
 is_own_call worker (command.Step other choice) = nat_eq other worker
-is_own_call worker (command.Look query.Ready) = true
+is_own_call worker (command.Look query.FirstReady) = true
 is_own_call worker _ = false
 
 -- the calls that are not the worker's own

@@ -120,7 +120,7 @@ impl<G: Gate + Drop, D: Debuggee + Drop> Runner<G, D> {
         ensures steps { NoStep D.made self.old.debuggee self.new.debuggee }
         ensures own { KeepsOtherCalls self.old.worker D.made self.old.debuggee self.new.debuggee }
     {
-        let reply = self.debuggee.call(rt, Command::Look(Query::Ready))?;
+        let reply = self.debuggee.call(rt, Command::Look(Query::FirstReady))?;
         let first = first_name(&reply);
         drop(reply);
         Ok(first)
@@ -149,10 +149,10 @@ impl<G: Gate + Drop, D: Debuggee + Drop> Runner<G, D> {
 
 // The first of the tasks that are ready.
 fn first_name(reply: &Reply) -> Option<Name> {
-    let Reply::Ready(names) = reply else {
+    let Reply::FirstReady(Some(name)) = reply else {
         return None;
     };
-    names.as_slice().first().copied()
+    Some(name.get().get())
 }
 
 // Whether a step waits at a barrier or for tasks, so that another task may be begun there.

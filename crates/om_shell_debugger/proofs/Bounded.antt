@@ -1,13 +1,13 @@
 -- Commands of many steps, one step at a time.
 use Rattle.std.proofs.Common.{◌≡◌, refl, sym, ap, ◌∙◌, ◌<◌, ◌≤◌, ◌-◌, ◌+◌, zero, suc, true, false, None, Some, ℕ, List}
-use Rattle.std.proofs.Common.{Option, cond, [], ◌∷◌, ◌++◌, length, drop, get_or, append_assoc, arith, Bool, map}
+use Rattle.std.proofs.Common.{Option, cond, [], ◌∷◌, ◌++◌, length, drop, get_or, append_assoc, append-nil, arith, Bool, map}
 use Rattle.om_state.specs.declared.step.Choice.{Choice}
 use Rattle.om_state.specs.declared.step.Choice.TheVariants.{Next, Start}
 use Rattle.om_state.specs.declared.step.Outcome.{Outcome}
 use Rattle.om_state.specs.declared.step.Outcome.TheVariants as outcome
 use Rattle.om_state.specs.declared.step.Update.{Update}
 use Rattle.om_shell_commands.specs.Steps.{full_text, step_text, undo_text}
-use Rattle.om_shell_commands.specs.Lists.{joined}
+use Rattle.om_shell_commands.specs.Lists.{entry_line, history_text, joined}
 use Rattle.om_shell_commands.specs.declared.stop.Stop.TheVariants as stop
 use Rattle.om_state.specs.Values.{control_in}
 use Rattle.om_foot.specs.declared.object.Obj.TheVariants as object
@@ -310,3 +310,11 @@ pub joined_next : {A : Type 0} (text : A → List ℕ) (now more all : List ℕ)
 joined_next text now more all xs k x within is h added =
     ap (λ t. t ++ joined text (drop (k + 1) xs)) added ∙ append_assoc now (text x) (joined text (drop (k + 1) xs))
     ∙ ap (λ l. now ++ joined text l) (sym (drop_next xs k x within is)) ∙ h
+
+-- a step that stands alone is one line
+pub one_line : (now more : List ℕ) (got entry : Entry) → got ≡ entry → more ≡ now ++ history_text (got ∷ [])
+    → more ≡ now ++ entry_line entry
+one_line now more got entry same said =
+    said
+    ∙ ap (λ x. now ++ history_text (x ∷ [])) same
+    ∙ ap (λ l. now ++ l) (append-nil (entry_line entry))

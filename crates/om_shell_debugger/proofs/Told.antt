@@ -16,6 +16,7 @@ never_step m (command.Undo worker) x other e = other
 never_step m (command.Roll serial) x other e = cc
 never_step m (command.Look (query.Value object)) x other e = cc
 never_step m (command.Look query.Ready) x other e = cc
+never_step m (command.Look query.FirstReady) x other e = cc
 never_step m (command.Look query.Entries) x other e = cc
 
 pub never_undo : (m : MachineView) (c : Command) (x : UndoReply) → IsOther c → reply.Undo x ≡ reply_to m c → ⊥
@@ -24,6 +25,7 @@ never_undo m (command.Undo worker) x other e = other
 never_undo m (command.Roll serial) x other e = cc
 never_undo m (command.Look (query.Value object)) x other e = cc
 never_undo m (command.Look query.Ready) x other e = cc
+never_undo m (command.Look query.FirstReady) x other e = cc
 never_undo m (command.Look query.Entries) x other e = cc
 
 pub undone_by_no_step : (m : MachineView) (worker : ℕ) (x : StepReply)

@@ -20,8 +20,8 @@ pub record SeatCall : Type 0 where
   pub seat : ℕ
   pub command : Command
 
--- each is an own call of the worker whose number its seat has: a step of this worker, or the question which tasks are
--- ready
+-- each is an own call of the worker whose number its seat has: a step of this worker, or the question which task is the
+-- first that is ready
 abbrev pub AreOwn : List SeatCall → Type 0
 AreOwn calls = AllByRecursion (λ (c : SeatCall). is_own_call c.seat c.command ≡ true) calls
 

@@ -12,12 +12,11 @@ ghost use Rattle.om_undo.specs.Machines.{step_reply};
 ghost use Rattle.om_shell_debugger.specs.Calls.{IsOther, AreEntriesTold, AreNamesTold, IsReplyTold, IsRollTold, IsUndoTold, IsValueTold, step_reply_at, with_debugger_call, with_step, with_value_look};
 
 use om_book::{Book, CallError};
-use om_book_journal::{Command, KeptUndoReply, Reply, ReplyIn};
-use om_foot::Name;
+use om_book_journal::{Command, KeptEntry, KeptName, KeptUndoReply, Reply, ReplyIn};
 use om_seq::{AllocResult, Seq};
 use om_state::Val;
 use om_task::Choice;
-use om_undo::{Entry, PlannedStep, RollReply, StepReply};
+use om_undo::{PlannedStep, RollReply, StepReply};
 use std::alloc::{AllocError, Global};
 
 // The debugger's seat.
@@ -143,23 +142,23 @@ pub(crate) fn value_told(book: &Book) -> &Val
 }
 
 /// What the last call was answered, which was a look at the entries that stand.
-pub(crate) fn entries_told(book: &Book) -> &Seq<Entry>
+pub(crate) fn entries_told(book: &Book) -> &Seq<KeptEntry>
     requires { (b : BookView) × (book.now ≡ with_debugger_call b (Command.Look query.Entries)) }
     ensures { AreEntriesTold result.now book.now }
 {
     let Reply::Entries(entries) = other_told(book) else {
         unreachable!()
     };
-    entries
+    entries.get()
 }
 
 /// What the last call was answered, which was a look at the names of the tasks that are ready, ascending.
-pub(crate) fn names_told(book: &Book) -> &Seq<Name>
+pub(crate) fn names_told(book: &Book) -> &Seq<KeptName>
     requires { (b : BookView) × (book.now ≡ with_debugger_call b (Command.Look query.Ready)) }
     ensures { AreNamesTold result.now book.now }
 {
     let Reply::Ready(names) = other_told(book) else {
         unreachable!()
     };
-    names
+    names.get()
 }

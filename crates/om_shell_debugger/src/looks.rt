@@ -6,12 +6,13 @@ ghost use Rattle.om_state.specs.declared.value.Task.TheVariants as tasks;
 ghost use Rattle.om_task.specs.Rules.{line_in};
 ghost use Rattle.om_undo.specs.Machines.{state_in};
 ghost use Rattle.om_shell_debugger.specs.Looks.{local_said, print_said, control_text, where_said, history_said, events_said, output_said, directive_line, ready_line, ready_text, tasks_text, tasks_said};
+ghost use Rattle.om_shell_commands.specs.Lists.{entry_line, history_text, joined};
 ghost use Rattle.om_shell_commands.specs.Texts.{Writes};
 ghost use Rattle.om_shell_debugger.specs.Says.{Says};
 
 use crate::calls::{call, entries_told, names_told, value_told};
 use om_book::Book;
-use om_book_journal::{Command, Query};
+use om_book_journal::{Command, KeptEntry, KeptName, Query};
 use om_code::Program;
 use om_code_places::line_of;
 use om_foot::{Name, Obj};
@@ -100,6 +101,33 @@ pub(crate) fn place(
     push_control(text, book.machine().program(), worker, value_told(book))
 }
 
+// A step that stands, on a line.
+fn push_one(text: &mut Vec<u8>, entry: &KeptEntry) -> AllocResult<()>
+    ensures { OnOk result (Writes (entry_line entry.now) text.old text.new) }
+{
+    push_history(text, &[entry.get()])
+}
+
+// Steps that stand, each on a line.
+fn push_all(text: &mut Vec<u8>, entries: &[KeptEntry]) -> AllocResult<()>
+    ensures { OnOk result (Writes (joined entry_line entries.now) text.old text.new) }
+{
+    for entry in entries {
+        push_one(text, entry)?;
+    }
+    Ok(())
+}
+
+// The steps that stand, or that there is none.
+fn push_entries(text: &mut Vec<u8>, entries: &[KeptEntry]) -> AllocResult<()>
+    ensures { OnOk result (Writes (history_text entries.now) text.old text.new) }
+{
+    match entries {
+        [] => push_history(text, &[]),
+        [_, ..] => push_all(text, entries),
+    }
+}
+
 /// Answers `history`.
 pub(crate) fn history(alloc: Global, book: &mut Book, text: &mut Vec<u8>) -> AllocResult<()>
     ensures { OnOk result (Says (history_said book.old) text.old text.new book.new) }
@@ -108,7 +136,7 @@ pub(crate) fn history(alloc: Global, book: &mut Book, text: &mut Vec<u8>) -> All
         return push_full(text);
     }
     call(alloc, book, &Command::Look(Query::Entries))?;
-    push_history(text, entries_told(book).as_slice())
+    push_entries(text, entries_told(book).as_slice())
 }
 
 /// Answers `events W`.
@@ -162,17 +190,29 @@ fn push_ready(alloc: Global, machine: &Machine, name: &Name, text: &mut Vec<u8>)
     push_task(text, name, line)
 }
 
+// The same by the name that a reply keeps.
+fn push_kept(
+    alloc: Global,
+    machine: &Machine,
+    name: &KeptName,
+    text: &mut Vec<u8>,
+) -> AllocResult<()>
+    ensures { OnOk result (Writes (ready_line (state_in machine.now) name.now) text.old text.new) }
+{
+    push_ready(alloc, machine, &name.get(), text)
+}
+
 // Tasks that are ready, each on a line.
 fn push_all_ready(
     alloc: Global,
     machine: &Machine,
-    names: &[Name],
+    names: &[KeptName],
     text: &mut Vec<u8>,
 ) -> AllocResult<()>
     ensures { OnOk result (Writes (ready_text machine.now names.now) text.old text.new) }
 {
     for name in names {
-        push_ready(alloc, machine, name, text)?;
+        push_kept(alloc, machine, name, text)?;
     }
     Ok(())
 }
@@ -181,7 +221,7 @@ fn push_all_ready(
 fn push_tasks(
     alloc: Global,
     machine: &Machine,
-    names: &[Name],
+    names: &[KeptName],
     text: &mut Vec<u8>,
 ) -> AllocResult<()>
     ensures { OnOk result (Writes (tasks_text (state_in machine.now) names.now) text.old text.new) }

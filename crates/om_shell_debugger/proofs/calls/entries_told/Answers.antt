@@ -12,4 +12,5 @@ unreachable-requires c = c.in_default.not-Entries _
     (c.other_told.ensures c.requires.0 (call.Look query.Entries) c.requires.1)
 
 pub returns : goal.returns
-returns c = λ b is. same_entries _ _ (sym c.in-Entries.is ∙ c.other_told.ensures b (call.Look query.Entries) is)
+returns c = λ b is. c.get.ensures
+    ∙ same_entries _ _ (sym c.in-Entries.is ∙ c.other_told.ensures b (call.Look query.Entries) is)

@@ -12,4 +12,5 @@ unreachable-requires c = c.in_default.not-Ready _
     (c.other_told.ensures c.requires.0 (call.Look query.Ready) c.requires.1)
 
 pub returns : goal.returns
-returns c = λ b is. same_names _ _ (sym c.in-Ready.is ∙ c.other_told.ensures b (call.Look query.Ready) is)
+returns c = λ b is. c.get.ensures
+    ∙ same_names _ _ (sym c.in-Ready.is ∙ c.other_told.ensures b (call.Look query.Ready) is)

@@ -9,5 +9,5 @@ pub returns : goal.returns
 returns c =
     let told = c.entries_told.ensures _ c.in_ok-call.ensures in
     rw (sym c.is_full.ensures ∙ c.if-is_full.false)
-    (on_ok_weaker c.push_history.result (λ said. (said, c.in_ok-call.ensures))
-    (rw (c.as_slice.ensures, told) at c.push_history.ensures))
+    (on_ok_weaker c.push_entries.result (λ said. (said, c.in_ok-call.ensures))
+    (rw (c.as_slice.ensures, told) at c.push_entries.ensures))

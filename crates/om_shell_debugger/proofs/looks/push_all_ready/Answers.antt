@@ -7,4 +7,4 @@ pub loop-name-preserved : goal.loop-name-preserved
 loop-name-preserved c =
     joined_next (ready_line (state_in c.args.machine.now)) _ _ _ c.args.names.now c.loop-name.name-index
     c.name-item.result c.loop-name-test.true c.name-item.is
-    c.loop-name.invariant c.in_ok-push_ready.ensures
+    c.loop-name.invariant c.in_ok-push_kept.ensures

@@ -5,6 +5,9 @@ use Rattle.om_book_journal.specs.Growing.{sound_next, sound_same}
 use Rattle.om_book.proofs.book.Book.call.Goals.{in-Ok, in-Err}
 use Rattle.om_book.proofs.book.Book.call.Goals as goal
 
+pub append_call-requires-clause-sound : goal.append_call-requires-clause-sound
+append_call-requires-clause-sound c = (c.self.inside.start.value, c.self.invariant)
+
 pub invariant_of-self : goal.invariant_of-self
 invariant_of-self c =
     let journal = c.self.inside.journal.items in
