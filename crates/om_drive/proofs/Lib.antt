@@ -4,3 +4,4 @@ pub mod Places
 pub mod Stepping
 pub mod OwnCalls
 pub mod Sent
+pub mod Turns

@@ -85,7 +85,7 @@ seated_calls seat [] = refl
 seated_calls seat (s ∷ ss) = ap (λ more. (seat s).receipts ∷ more) (seated_calls seat ss)
 
 -- each number is the place from this one on
-abbrev AreNumbered : ℕ → List ℕ → Type 0
+abbrev pub AreNumbered : ℕ → List ℕ → Type 0
 AreNumbered n [] = Unit {0}
 AreNumbered n (k ∷ ks) = (k ≡ n) × AreNumbered (suc n) ks
 
@@ -93,7 +93,7 @@ numbered_last : (n : ℕ) (ks : List ℕ) (k : ℕ) → AreNumbered n ks → k �
 numbered_last n [] k h e = (omega (arith, e), tt)
 numbered_last n (j ∷ ks) k h e = (h.0, numbered_last (suc n) ks k h.1 (omega (arith, e)))
 
-numbered_below : (n : ℕ) → AreNumbered 0 (map number_of (seats_below n))
+pub numbered_below : (n : ℕ) → AreNumbered 0 (map number_of (seats_below n))
 numbered_below zero = tt
 numbered_below (suc n) =
     let s : SeatView = record { number = n; receipts = [] } in
@@ -102,10 +102,10 @@ numbered_below (suc n) =
     (omega (arith, seats_many n, length-map (seats_below n) number_of)))
 
 -- there is none in each of these
-abbrev AreNone : List (List Receipt) → Type 0
+abbrev pub AreNone : List (List Receipt) → Type 0
 AreNone rss = AllByRecursion (λ (rs : List Receipt). rs ≡ []) rss
 
-none_last : (rss : List (List Receipt)) (rs : List Receipt) → AreNone rss → rs ≡ [] → AreNone (rss ++ rs ∷ [])
+pub none_last : (rss : List (List Receipt)) (rs : List Receipt) → AreNone rss → rs ≡ [] → AreNone (rss ++ rs ∷ [])
 none_last [] rs h e = (e, tt)
 none_last (xs ∷ rss) rs h e = (h.0, none_last rss rs h.1 e)
 

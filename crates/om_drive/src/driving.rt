@@ -5,7 +5,7 @@ ghost use Rattle.om_book.specs.Rounds.{numbers_of};
 ghost use Rattle.om_drive.specs.Answered.{AddsAll, AddsSome, AnswerAll, AnswerSome};
 ghost use Rattle.om_drive.specs.Calls.{ComeBack, HasRoomFor};
 
-use crate::rounds::{ask_all, push_within};
+use crate::rounds::{ask_all, push_driven};
 use crate::worker::{Debuggee, Gate, Worker};
 use crossbeam_channel::{Receiver, Sender, bounded};
 use om_book::{Answer, Fault, Order};
@@ -155,7 +155,7 @@ fn drive_from<
             debuggee
         }
     };
-    push_within(&mut ranks.back, debuggee);
+    push_driven(&mut ranks.back, debuggee);
 }
 
 // That a debuggee comes back as the one that it was.

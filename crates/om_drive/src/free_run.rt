@@ -6,6 +6,7 @@ ghost use Rattle.om_book.specs.Seats.{seats_below};
 ghost use Rattle.om_book_journal.specs.Journals.{IsLegal, done_in};
 ghost use Rattle.om_drive.specs.FreeRuns.{GoesOn, gained};
 ghost use Rattle.om_drive.specs.OwnCalls.{AreOwnCalls};
+ghost use Rattle.om_drive.specs.Turns.{GainsInTurn};
 
 use crate::{Fault, Freed, Gate, free};
 use core::mem::replace_with;
@@ -38,11 +39,13 @@ pub struct Count {
 
 /// Lets all workers of a book step at once: opens a session over it, lets its seats run freely and
 /// closes it. Their calls are added to the journal: of each its own steps, and its questions which
-/// tasks are ready.
+/// task is the first that is ready.
 ///
-/// Without an error each call that was added is a worker's own. `AllocError` stands for three things:
-/// no memory, no thread, or a receipt that does not stand. Then the book still has only legal records
-/// more (`goes_on`), but of whom they are is not said.
+/// Without an error each call that was added is a worker's own, and the calls of each worker are in
+/// turn (`call_after`): its next step. Where that waits at a barrier or for tasks (B1, B3, B8), it
+/// asks which task is the first that is ready, and then starts this task, if there is one.
+/// `AllocError` stands for three things: no memory, no thread, or a receipt that does not stand.
+/// Then the book still has only legal records more (`goes_on`), but of whom they are is not said.
 pub fn run_freely<R: Threads + Wait + Sync>(
     book: &mut Book,
     errand: Errand<'_, R>,
@@ -50,6 +53,7 @@ pub fn run_freely<R: Threads + Wait + Sync>(
     ensures goes_on { GoesOn book.old book.new }
     ensures done { IfOk result (λ count. count.done ≡ done_in (gained book.old book.new)) }
     ensures own { IfOk result (λ count. AreOwnCalls (gained book.old book.new)) }
+    ensures in_turn { IfOk result (λ count. GainsInTurn book.old book.new) }
     ensures full { IfOk result (λ count. count.full ≡ true → is_full book.new ≡ true) }
 {
     replace_with(
@@ -59,12 +63,13 @@ pub fn run_freely<R: Threads + Wait + Sync>(
             ensures goes_on { GoesOn book result.0 }
             ensures done { IfOk result.1 (λ count. count.done ≡ done_in (gained book result.0)) }
             ensures own { IfOk result.1 (λ count. AreOwnCalls (gained book result.0)) }
+            ensures in_turn { IfOk result.1 (λ count. GainsInTurn book result.0) }
             ensures full { IfOk result.1 (λ count. count.full ≡ true → is_full result.0 ≡ true) }
         { ran_freely(errand, book) },
     )
 }
 
-// The book behind a free run, and what the run came to.
+// The book after a free run, and what the run came to.
 fn ran_freely<R: Threads + Wait + Sync>(
     errand: Errand<'_, R>,
     book: Book,
@@ -72,6 +77,7 @@ fn ran_freely<R: Threads + Wait + Sync>(
     ensures goes_on { GoesOn book result.0 }
     ensures done { IfOk result.1 (λ count. count.done ≡ done_in (gained book result.0)) }
     ensures own { IfOk result.1 (λ count. AreOwnCalls (gained book result.0)) }
+    ensures in_turn { IfOk result.1 (λ count. GainsInTurn book result.0) }
     ensures full { IfOk result.1 (λ count. count.full ≡ true → is_full result.0 ≡ true) }
 {
     let workers = book.machine().workers();
@@ -135,6 +141,7 @@ fn run_through<L: Sitting + Send + Sync, R: Threads + Wait + Sync>(
     ensures goes_on { GoesOn book result.0 }
     ensures done { IfOk result.1 (λ count. count.done ≡ done_in (gained book result.0)) }
     ensures own { IfOk result.1 (λ count. AreOwnCalls (gained book result.0)) }
+    ensures in_turn { IfOk result.1 (λ count. GainsInTurn book result.0) }
     ensures full { IfOk result.1 (λ count. count.full ≡ true → is_full result.0 ≡ true) }
 {
     let before = book.journal().len();
@@ -169,7 +176,7 @@ fn is_whole(all_stand: bool, fault: Option<Fault>) -> bool
     all_stand && fault.is_none()
 }
 
-// A book behind a free run that found it with so many calls, and what the run came to. It is out of
+// A book after a free run that found it with so many calls, and what the run came to. It is out of
 // memory where the run is not whole.
 //
 // A book keeps its records. So one in which a worker found no room is still full.

@@ -5,8 +5,9 @@ ghost use Rattle.om_book.specs.Standing.{number_of};
 ghost use Rattle.om_drive.specs.Calls.{ComeBack, HasRoomFor};
 ghost use Rattle.om_drive.specs.OwnCalls.{EachKeepsOtherCalls, KeepsOtherCalls, receipts_of};
 ghost use Rattle.om_drive.specs.Steps.{AllMakeSteps, MakesSteps, steps_by, steps_of};
+ghost use Rattle.om_drive.specs.Turns.{EachRunsInTurn, RunsInTurn};
 
-use crate::rounds::push_within;
+use crate::rounds::push_driven;
 use crate::runner::{Ran, Runner};
 use crate::sitter::{sit_down, stand_up};
 use crate::worker::{Debuggee, Gate};
@@ -32,10 +33,10 @@ pub struct Freed<L: Sitting> {
 /// first seat drives worker 0, and so on. There is a gate for each seat.
 ///
 /// In each of its rounds a worker makes its next step. Where that waits at a barrier or for tasks,
-/// it asks which tasks are ready and starts the first. A worker goes on after a step that is not
-/// made, and stops where the journal is full. So each seat gains own calls of its worker alone. That it
-/// keeps those that it had is promised by each of its calls, and not here. The seats always come back in
-/// their places.
+/// it asks which task is the first that is ready, and starts this task. A worker goes on after a
+/// step that is not made, and stops where the journal is full. So each seat gains own calls of its worker alone, in
+/// the order that `call_after` gives, and keeps those that it had. How many rounds they make is not
+/// promised. The seats always come back in their places.
 pub fn free<L: Sitting + Send + Sync, G: Gate + Drop + Send, R: Threads + Wait + Sync>(
     session: &Session<L>,
     rt: &R,
@@ -49,6 +50,8 @@ pub fn free<L: Sitting + Send + Sync, G: Gate + Drop + Send, R: Threads + Wait +
     ensures done { sum_by steps_of result.seats.items
         ≡ sum_by steps_of seats.items + result.done }
     ensures own { EachKeepsOtherCalls receipts_of seats.items result.seats.items }
+    ensures in_turn { EachRunsInTurn 0 (map receipts_of seats.items)
+        (map receipts_of result.seats.items) }
 {
     let alloc = *seats.allocator();
     let Ok(mut sitters) = Vec::with_capacity(alloc, seats.len()) else {
@@ -83,6 +86,8 @@ fn free_over<G: Gate + Drop + Send, D: Debuggee + Drop + Send, R: Threads + Wait
     ensures back { map D.place result.0.items ≡ map D.place debuggees.items }
     ensures done { AllMakeSteps D.made debuggees.items result.0.items result.1.done }
     ensures own { EachKeepsOtherCalls D.made debuggees.items result.0.items }
+    ensures in_turn { EachRunsInTurn 0 (map D.made debuggees.items)
+        (map D.made result.0.items) }
 {
     let tally = Tally {
         done: 0,
@@ -110,6 +115,8 @@ fn free_over<G: Gate + Drop + Send, D: Debuggee + Drop + Send, R: Threads + Wait
             ensures back { map D.place result.0.items ≡ map D.place line.waiting.items }
             ensures done { AllMakeSteps D.made line.waiting.items result.0.items result.1.done }
             ensures own { EachKeepsOtherCalls D.made line.waiting.items result.0.items }
+            ensures in_turn { EachRunsInTurn 0 (map D.made line.waiting.items)
+                (map D.made result.0.items) }
         { free_in(scope, rt, rounds, line) },
     )
 }
@@ -148,6 +155,8 @@ fn free_in<
     ensures back { map D.place result.0.items ≡ map D.place line.waiting.items }
     ensures done { AllMakeSteps D.made line.waiting.items result.0.items result.1.done }
     ensures own { EachKeepsOtherCalls D.made line.waiting.items result.0.items }
+    ensures in_turn { EachRunsInTurn 0 (map D.made line.waiting.items)
+        (map D.made result.0.items) }
 {
     free_from(scope, rt, rounds, &mut line);
     let Line { back, tally, .. } = line;
@@ -172,6 +181,8 @@ fn free_from<
         ≡ steps_by D.made line.old.back.items + steps_by D.made line.old.waiting.items
         + line.new.tally.done }
     ensures own { EachKeepsOtherCalls D.made line.old.waiting.items line.new.back.items }
+    ensures in_turn { EachRunsInTurn 0 (map D.made line.old.waiting.items)
+        (map D.made line.new.back.items) }
     ensures small { line.new.tally.done ≤ line.old.tally.done + vec_len line.old.waiting * 2 ^ 32 }
     ensures capacity { vec_capacity line.old.back ≤ vec_capacity line.new.back }
 {
@@ -200,7 +211,7 @@ fn free_from<
 }
 
 // That a runner's debuggee comes back as the one that it was, with as many further steps as are
-// counted, and with no further call that is not its worker's own.
+// counted, and with no further call that is not its worker's own. Its further calls are in turn.
 #[derive(Drop)]
 struct Counted<G: Gate + Drop, D: Debuggee + Drop>(Snapshot<Runner<G, D>>);
 
@@ -208,10 +219,12 @@ impl<G: Gate + Drop, D: Debuggee + Drop> Promise<Ran<D>> for Counted<G, D> {
     ghost use Rattle.std.specs.Prelude.{◌≡◌};
     ghost use Rattle.om_drive.specs.OwnCalls.{KeepsOtherCalls};
     ghost use Rattle.om_drive.specs.Steps.{MakesSteps};
+    ghost use Rattle.om_drive.specs.Turns.{RunsInTurn};
 
     ghost kept_by = { λ p r. (D.place r.debuggee ≡ D.place p.0.value.debuggee)
         × MakesSteps D.made p.0.value.debuggee r.debuggee r.done
-        × KeepsOtherCalls p.0.value.worker D.made p.0.value.debuggee r.debuggee };
+        × KeepsOtherCalls p.0.value.worker D.made p.0.value.debuggee r.debuggee
+        × RunsInTurn p.0.value.worker (D.made p.0.value.debuggee) (D.made r.debuggee) };
 }
 
 // Starts a worker's thread. Where there is none, the worker makes its rounds here.
@@ -231,6 +244,8 @@ fn start<
     ensures place { IfErr result (λ ran. D.place ran.debuggee ≡ D.place runner.debuggee) }
     ensures steps { IfErr result (λ ran. MakesSteps D.made runner.debuggee ran.debuggee ran.done) }
     ensures own { IfErr result (λ ran. KeepsOtherCalls runner.worker D.made runner.debuggee ran.debuggee) }
+    ensures in_turn { IfErr result (λ ran. RunsInTurn runner.worker (D.made runner.debuggee)
+        (D.made ran.debuggee)) }
 {
     let promise = Counted(Snapshot::of(&runner));
     match scope.spawn_with(promise, move || runner.run(rt, rounds)) {
@@ -254,7 +269,7 @@ impl<D: Debuggee + Drop, G> Line<D, G> {
             error,
         } = ran;
         self.tally = self.tally.with(done, error);
-        push_within(&mut self.back, debuggee);
+        push_driven(&mut self.back, debuggee);
     }
 }
 

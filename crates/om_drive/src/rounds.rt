@@ -70,12 +70,12 @@ fn await_one<R: Wait>(
         drop(answer);
         return Err(Fault::Strange);
     }
-    push_within(answers, answer);
+    push_driven(answers, answer);
     Ok(())
 }
 
-/// Adds an item where there is room for it.
-pub(crate) fn push_within<T: Drop>(items: &mut Vec<T>, item: T)
+/// Adds an answer or what was driven where there is room for it.
+pub(crate) fn push_driven<T: Drop>(items: &mut Vec<T>, item: T)
     requires { vec_len items.old < vec_capacity items.old }
     ensures items { items.new.items ≡ items.old.items ++ item ∷ [] }
     ensures one_more { vec_len items.new ≡ vec_len items.old + 1 }

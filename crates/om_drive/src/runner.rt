@@ -1,9 +1,12 @@
 //! A worker that runs freely: it makes its rounds over one debuggee, behind a gate.
 
-ghost use Rattle.std.specs.Prelude.{◌≡◌, ◌<◌, IfOk, OnErr};
-ghost use Rattle.om_book_journal.specs.Runs.{IsInRange};
+ghost use Rattle.std.specs.Prelude.{◌≡◌, ◌<◌, IfOk, OnOk, OnErr};
+ghost use Rattle.om_book_journal.specs.Runs.{IsInRange, is_step_made};
+ghost use Rattle.om_book_journal.specs.declared.reply.Reply.{Reply as ReplyView};
+ghost use Rattle.om_drive.specs.Calls.{AddsReceipt};
 ghost use Rattle.om_drive.specs.OwnCalls.{KeepsOtherCalls};
 ghost use Rattle.om_drive.specs.Steps.{MakesSteps, NoStep, StepIf};
+ghost use Rattle.om_drive.specs.Turns.{waits, first_ready, next_step, ready_question, GoesInTurn, MakesRound, RunsInTurn};
 
 use crate::worker::{Debuggee, Gate, says_yes};
 use om_book::{CallError, Command, Query, Reply};
@@ -42,11 +45,12 @@ pub(crate) struct Ran<D: Debuggee + Drop> {
 
 impl<G: Gate + Drop, D: Debuggee + Drop> Runner<G, D> {
     /// Makes its rounds, each behind its gate, until a call is not answered. A worker that is out
-    /// of range makes none. All calls are the worker's own.
+    /// of range makes none. All calls are the worker's own, and in turn.
     pub(crate) fn run<R: Wait>(mut self, rt: &R, rounds: u32) -> Ran<D>
         ensures place { D.place result.debuggee ≡ D.place self.debuggee }
         ensures steps { MakesSteps D.made self.debuggee result.debuggee result.done }
         ensures own { KeepsOtherCalls self.worker D.made self.debuggee result.debuggee }
+        ensures in_turn { RunsInTurn self.worker (D.made self.debuggee) (D.made result.debuggee) }
     {
         let mut done = 0;
         let mut error = None;
@@ -67,6 +71,8 @@ impl<G: Gate + Drop, D: Debuggee + Drop> Runner<G, D> {
         ensures place { D.place self.new.debuggee ≡ D.place self.old.debuggee }
         ensures steps { MakesSteps D.made self.old.debuggee self.new.debuggee result.0 }
         ensures own { KeepsOtherCalls self.old.worker D.made self.old.debuggee self.new.debuggee }
+        ensures in_turn { RunsInTurn self.old.worker (D.made self.old.debuggee)
+            (D.made self.new.debuggee) }
     {
         let mut done = 0;
         for round in 0..rounds {
@@ -89,12 +95,19 @@ impl<G: Gate + Drop, D: Debuggee + Drop> Runner<G, D> {
         ensures steps { IfOk result (StepIf D.made self.old.debuggee self.new.debuggee) }
         ensures none_on_error { OnErr result (NoStep D.made self.old.debuggee self.new.debuggee) }
         ensures own { KeepsOtherCalls self.old.worker D.made self.old.debuggee self.new.debuggee }
+        ensures in_turn { OnOk result (MakesRound self.old.worker (next_step self.old.worker)
+            (D.made self.old.debuggee) (D.made self.new.debuggee)) }
+        ensures begun_on_error { OnErr result (GoesInTurn self.old.worker
+            (next_step self.old.worker) (D.made self.old.debuggee) (D.made self.new.debuggee)) }
     {
         let tried = self.step(rt, Choice::Next)?;
-        if tried.waits && !tried.made {
+        if tried.made {
+            return Ok(true);
+        }
+        if tried.waits {
             return self.start_first(rt);
         }
-        Ok(tried.made)
+        Ok(false)
     }
 
     // Starts the first task that is ready, if there is one. Whether it was begun.
@@ -105,6 +118,10 @@ impl<G: Gate + Drop, D: Debuggee + Drop> Runner<G, D> {
         ensures steps { IfOk result (StepIf D.made self.old.debuggee self.new.debuggee) }
         ensures none_on_error { OnErr result (NoStep D.made self.old.debuggee self.new.debuggee) }
         ensures own { KeepsOtherCalls self.old.worker D.made self.old.debuggee self.new.debuggee }
+        ensures in_turn { OnOk result (MakesRound self.old.worker ready_question
+            (D.made self.old.debuggee) (D.made self.new.debuggee)) }
+        ensures begun_on_error { OnErr result (GoesInTurn self.old.worker ready_question
+            (D.made self.old.debuggee) (D.made self.new.debuggee)) }
     {
         let Some(task) = self.first_ready(rt)? else {
             return Ok(false);
@@ -119,6 +136,11 @@ impl<G: Gate + Drop, D: Debuggee + Drop> Runner<G, D> {
         ensures worker { self.new.worker ≡ self.old.worker }
         ensures steps { NoStep D.made self.old.debuggee self.new.debuggee }
         ensures own { KeepsOtherCalls self.old.worker D.made self.old.debuggee self.new.debuggee }
+        ensures asked { IfOk result (λ first. (x : ReplyView) × (AddsReceipt
+            (D.made self.old.debuggee) (D.made self.new.debuggee) ready_question x)
+            × (first ≡ first_ready x)) }
+        ensures same_on_error { OnErr result (D.made self.new.debuggee
+            ≡ D.made self.old.debuggee) }
     {
         let reply = self.debuggee.call(rt, Command::Look(Query::FirstReady))?;
         let first = first_name(&reply);
@@ -135,6 +157,12 @@ impl<G: Gate + Drop, D: Debuggee + Drop> Runner<G, D> {
             tried.made) }
         ensures none_on_error { OnErr result (NoStep D.made self.old.debuggee self.new.debuggee) }
         ensures own { KeepsOtherCalls self.old.worker D.made self.old.debuggee self.new.debuggee }
+        ensures called { IfOk result (λ tried. (x : ReplyView) × (AddsReceipt
+            (D.made self.old.debuggee) (D.made self.new.debuggee)
+            (Command.Step self.old.worker choice) x)
+            × (tried.made ≡ is_step_made x) × (tried.waits ≡ waits x)) }
+        ensures same_on_error { OnErr result (D.made self.new.debuggee
+            ≡ D.made self.old.debuggee) }
     {
         let worker = self.worker;
         let reply = self.debuggee.call(rt, Command::Step { worker, choice })?;
@@ -148,7 +176,9 @@ impl<G: Gate + Drop, D: Debuggee + Drop> Runner<G, D> {
 }
 
 // The first of the tasks that are ready.
-fn first_name(reply: &Reply) -> Option<Name> {
+fn first_name(reply: &Reply) -> Option<Name>
+    ensures { result ≡ first_ready reply.now }
+{
     let Reply::FirstReady(Some(name)) = reply else {
         return None;
     };
@@ -156,7 +186,9 @@ fn first_name(reply: &Reply) -> Option<Name> {
 }
 
 // Whether a step waits at a barrier or for tasks, so that another task may be begun there.
-fn waits_for_tasks(reply: &Reply) -> bool {
+fn waits_for_tasks(reply: &Reply) -> bool
+    ensures { result ≡ waits reply.now }
+{
     matches!(
         reply,
         Reply::Step(StepReply::Blocked(Blocked::Barrier | Blocked::Children | Blocked::Group))

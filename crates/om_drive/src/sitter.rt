@@ -3,7 +3,7 @@
 ghost use Rattle.std.specs.Prelude.{◌≡◌, ◌≤◌, ◌+◌, ◌++◌, [], ℕ, map, vec_len, vec_capacity};
 ghost use Rattle.om_drive.specs.Calls.{place_of, last_place_in};
 
-use crate::rounds::push_within;
+use crate::rounds::push_driven;
 use crate::worker::Debuggee;
 use om_book::{CallError, Command, Receipt, Reply, Seat, Session, Sitting};
 use std::alloc::Global;
@@ -71,7 +71,7 @@ pub(crate) fn sit_down<'s, L: Sitting>(
         alloc,
         seat,
     };
-    push_within(sitters, sitter);
+    push_driven(sitters, sitter);
 }
 
 /// Takes the seats back, in their order.
@@ -87,5 +87,5 @@ pub(crate) fn stand_up<L: Sitting>(sitters: &mut Vec<Sitter<'_, L>>, seats: &mut
         return;
     };
     stand_up(sitters, seats);
-    push_within(seats, seat);
+    push_driven(seats, seat);
 }

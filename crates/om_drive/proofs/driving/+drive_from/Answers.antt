@@ -17,9 +17,9 @@ returns-clause-back g t c =
       | in-Ok w ↦ rw w.debuggee-is (rw w.in-Ok.ensures.started at w.join-debuggee.ensures)
       | in-Err w ↦ rw w.debuggee-is w.in-Err.ensures.back
     ] in
-    place_back at c.push_within.new.items.items ranks.back.items c.args.ranks.now.back.items
+    place_back at c.push_driven.new.items.items ranks.back.items c.args.ranks.now.back.items
     c.args.ranks.now.waiting.items c.pop.new.self.items c.in-Some.debuggee c.match-start_if.debuggee
-    c.push_within.ensures.items c.in-Some.ensures.items back place
+    c.push_driven.ensures.items c.in-Some.ensures.items back place
 
 pub returns-clause-part : goal.returns-clause-part
 returns-clause-part g t c = elim c.match-start_if.branch [

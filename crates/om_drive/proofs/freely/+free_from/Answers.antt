@@ -2,7 +2,9 @@ use Rattle.std.proofs.Common.{rules, ◌≡◌, ◌+◌, ◌++◌, map}
 use Rattle.om_drive.specs.OwnCalls.{others_in, others_from}
 use Rattle.om_drive.specs.Steps.{steps_in}
 use Rattle.om_drive.proofs.OwnCalls.{own_back}
+use Rattle.om_drive.specs.Turns.{EachRunsInTurn, RunsInTurn}
 use Rattle.om_drive.proofs.Stepping.{one_back, place_back}
+use Rattle.om_drive.proofs.Turns.{turn_back}
 use Rattle.om_drive.proofs.freely.+free_from.Goals.{in-Ok, in-Err}
 use Rattle.om_drive.proofs.freely.+free_from.Goals as goal
 
@@ -63,3 +65,22 @@ returns-clause-own g t c =
     ] in
     own_back made c.take_back.new.self.back.items line.back.items c.args.line.now.waiting.items c.pop.new.self.items
     c.in-Some.debuggee ran.debuggee worker c.take_back.ensures.back c.in-Some.ensures.items same (search rules) own
+
+pub returns-clause-in_turn : goal.returns-clause-in_turn
+returns-clause-in_turn g t c =
+    let made = g.D.Debuggee.made in
+    let line = c.match-started.line in
+    let ran = c.match-started.ran in
+    let worker = c.len-worker.result in
+    let each : EachRunsInTurn 0 (map made c.pop.new.self.items) (map made line.back.items) =
+    elim c.match-started.branch [
+      | in-Ok w ↦ rw w.line-is c.free_from.ensures.in_turn
+      | in-Err w ↦ rw w.line-is c.free_from.ensures.in_turn
+    ] in
+    let turn : RunsInTurn worker (made c.in-Some.debuggee) (made ran.debuggee) =
+    elim c.match-started.branch [
+      | in-Ok w ↦ rw w.ran-is (rw w.in-Ok.ensures.started at w.join-ran.ensures.3)
+      | in-Err w ↦ rw w.ran-is w.in-Err.ensures.in_turn
+    ] in
+    turn_back made c.take_back.new.self.back.items line.back.items c.args.line.now.waiting.items c.pop.new.self.items
+    c.in-Some.debuggee ran.debuggee worker c.take_back.ensures.back c.in-Some.ensures.items each (search rules) turn
