@@ -13,6 +13,9 @@ FAULTY = b"int main(void){ int x; return x; }\n"
 # Where it runs alone nothing is bad, so a hunt tries seeds.
 RACY = b"#include <stdio.h>\nint x; int main(void){\n#pragma omp parallel\nx = x + 1;\nprintf(\"%d\\n\", x); }\n"
 FULL = "/dev/full"
+# So much memory suffices for an input of any length, in kB.
+MOST_KB = 20_000
+ZEROS = bytes(1_000_000)
 
 
 def run(command, text=b"", **how):
@@ -38,6 +41,23 @@ def with_closed_input(command):
         return done.returncode, done.stdout, done.stderr
     finally:
         os.close(folder)
+
+
+def fed(command, blocks=(), tail=b""):
+    """A run whose standard input is these blocks and then a tail; whether it made do with the memory that suffices is told last.
+
+    What the kernel tells of a run counts this script's own memory too, as far as the run began with it: less than suffices.
+    """
+    process = subprocess.Popen(command, stdin=subprocess.PIPE, stdout=subprocess.PIPE, stderr=subprocess.PIPE)
+    try:
+        for block in [*blocks, tail]:
+            process.stdin.write(block)
+        process.stdin.close()
+    except BrokenPipeError:
+        pass
+    _, ended, used = os.wait4(process.pid, 0)
+    process.returncode = os.WEXITSTATUS(ended) if os.WIFEXITED(ended) else -os.WTERMSIG(ended)
+    return process.returncode, process.stdout.read(), process.stderr.read(), used.ru_maxrss <= MOST_KB
 
 
 def cut_off(got, length):
@@ -81,6 +101,13 @@ def of_debugger(program, folder):
     yield "a command with bytes that are no text", (0, b"H1 unknown command\n", b""), run([program, good], b"st\xff\xfe 0\n")
     yield "a command with a byte 0", (0, b"H2 bad argument\n", b""), run([program, good], b"step 0\0\n")
     yield "a line of a million bytes", (0, b"H2 bad argument\nx = 0\n", b""), run([program, good], b"x" * 1_000_000 + b"\nprint x\n")
+    yield "a source of 4 GB", (1, b"refused S2 line 1 column 1\n", b"", True), fed([program], [ZEROS] * 4000, b"\n")
+    yield "a source of 4 GB, and a mark and commands after it", (1, b"refused S2 line 1 column 1\n", b"", True), fed([program], [ZEROS] * 4000, b"\n%%\nstep 0\n")
+    large = os.path.join(folder, "large.c")
+    with open(large, "wb") as f:
+        f.truncate(4_000_000_000)
+    yield "a FILE of 4 GB", (1, b"refused S2 line 1 column 1\n", b"", True), fed([program, large])
+    yield "a line of 1 GB", (0, b"H2 bad argument\nx = 0\n", b"", True), fed([program, good], [ZEROS] * 1000, b"\nprint x\n")
     yield "a word of the command line that is no text", (2, b"", None), run([program.encode(), b"\xff\xfe.c"])
     yield "an option that is no text", (2, b"", None), run([program.encode(), b"--threads=\xff"])
     yield "an empty word of the command line", (3, b"", b"H3\n"), run([program, ""])

@@ -12,6 +12,7 @@ class Refused(Exception):
 
 
 LARGEST_SOURCE = 1048576
+MOST_KEPT = 4194304
 INT_MAX = 2147483647
 LONGEST_NAME = 63
 MOST_MACROS = 1024
@@ -171,7 +172,9 @@ class Lexer:
 
 
 def tokens_of(source):
-    """The tokens of a source. Of one that is too long, the first refusal below the limit goes before S1."""
+    """The tokens of a source. Of one that is too long, the first refusal below the limit goes before S1. What comes behind
+    the bytes that are kept is not looked at."""
+    source = source[:MOST_KEPT]
     try:
         tokens = Lexer(source).all_tokens()
     except Refused as refused:

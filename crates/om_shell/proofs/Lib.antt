@@ -2,8 +2,11 @@ mod Bytes
 mod LineEnds
 mod LineLaws
 mod SourceLaws
+mod KeptSource
+mod Stubs
 mod Advances
 mod SessionLaws
+mod Conversing
 mod ServeLaws
 mod RunLaws
 mod OneScripts

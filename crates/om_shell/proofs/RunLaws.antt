@@ -1,7 +1,7 @@
 -- A whole run, from its parts.
-use Rattle.std.proofs.Common.{◌≡◌, ◌≢◌, ◌⊎◌, inl, inr, ℕ, List, [], ◌++◌, Option, None, Some, IfSome, take, drop, refl}
-use Rattle.std.proofs.Common.{sym, ap, subst, ◌∙◌, append_assoc, append-nil, take-append-drop, Result, Ok, Err, IfErr}
-use Rattle.std.specs.Io.KnownBytes.{Appends, Consumes, IsAtEnd}
+use Rattle.std.proofs.Common.{◌≡◌, ◌≢◌, ◌⊎◌, inl, inr, ℕ, List, [], ◌++◌, Option, None, Some, IfSome, refl}
+use Rattle.std.proofs.Common.{sym, ap, subst, ◌∙◌, append_assoc, append-nil, Result, Ok, Err, IfErr}
+use Rattle.std.specs.Io.KnownBytes.{Appends, Consumes}
 use Rattle.std.proofs.KnownBytes.{Appends-nil, Consumes-trans}
 use Rattle.om_lexer.specs.declared.fault.SourceFault.{SourceFault}
 use Rattle.om_code.specs.declared.raw.Raw.{Raw}
@@ -9,97 +9,94 @@ use Rattle.om_book.specs.Books.{BookView}
 use Rattle.om_shell_debugger.specs.declared.debugger.Debugger.{Debugger}
 use Rattle.om_shell_debugger.specs.Freed.{FreeRun}
 use Rattle.om_shell.specs.declared.ended.ShellFault.{ShellFault}
-use Rattle.om_shell.specs.declared.ended.ShellFault.TheVariants.{Read, Memory}
+use Rattle.om_shell.specs.declared.ended.ShellFault.TheVariants.{Read}
 use Rattle.om_shell.specs.Ends.{RunsToEnd, BreaksOffRun, WritesScript}
-use Rattle.om_shell.specs.Lines.{parts_of, source_in, commands_in}
+use Rattle.om_shell.specs.Lines.{parts_of, source_in, commands_in, kept}
 use Rattle.om_shell.specs.Progress.{Moment, moment_of, Advance, BreaksOff}
 use Rattle.om_shell.specs.Script.{book_of, source_of, script_by, transcript_of}
 use Rattle.om_shell.specs.Serving.{due_for, Serves, BreaksOffServing, ServesAlone, ServesAlonePart, BreaksOffAlone}
-use Rattle.om_shell.specs.Source.{IsMarked, IsUnmarked, ReadsNoMark}
+use Rattle.om_shell.specs.Source.{ReadsMark, ReadsToEnd, ReadsNoMark}
 use Rattle.om_shell.specs.Transcript.{Transcript}
 use Rattle.om_frontend.specs.Verdict.{IsVerdict}
 use Rattle.om_shell.proofs.Advances.{Done_then, Breaks_then}
 
--- reading a source up to behind the mark's line
-abbrev pub Marked_advance : (ra rb w : Option (List ℕ)) (pending source rest : List ℕ) (at after workers : ℕ)
-    (verdict : Result Raw SourceFault) (runs : List FreeRun) → Consumes ra rb pending → IsMarked pending at after
-    → source ≡ take at pending → rest ≡ drop after pending
+-- reading a source up to the end of the mark's line
+abbrev pub Marked_advance : (ra rb w : Option (List ℕ)) (source rest : List ℕ) (workers : ℕ)
+    (verdict : Result Raw SourceFault) (runs : List FreeRun) → ReadsMark ra rb source rest
     → Advance (moment_of ra w []) (moment_of rb w rest)
     (script_by verdict workers runs None) (due_for verdict workers runs source)
-Marked_advance ra rb w pending source rest at after workers verdict runs read p e d = record {
-  taken = pending;
-  handled = take after pending;
+Marked_advance ra rb w source rest workers verdict runs read = record {
+  taken = read.taken;
+  handled = read.ends.handled;
   text = [];
-  bytes = sym (take-append-drop after pending) ∙ ap (λ l. take after pending ++ l) (sym d);
-  whole = p.whole;
-  consumes = read;
+  bytes = read.ends.bytes;
+  whole = read.ends.whole;
+  consumes = read.consumes;
   appends = Appends-nil w;
   is = λ future. ap (λ l. transcript_of verdict workers runs l
-      (commands_in (parts_of (take after pending ++ future)))) (p.source future ∙ sym e)
-      ∙ ap (λ l. transcript_of verdict workers runs source l) (p.commands future);
+      (commands_in (parts_of (read.ends.handled ++ future)))) (read.ends.source_is future)
+      ∙ ap (λ l. transcript_of verdict workers runs source l) (read.ends.commands_are future);
 }
 
 -- whatever follows the mark's line, the source stays
-marked_source : (pending source more : List ℕ) (at after : ℕ) → IsMarked pending at after → source ≡ take at pending
-    → source_in (parts_of (pending ++ more)) ≡ source
-marked_source pending source more at after p e =
-    ap (λ l. source_in (parts_of l)) (ap (λ l. l ++ more) (sym (take-append-drop after pending))
-    ∙ append_assoc (take after pending) (drop after pending) more)
-    ∙ p.source (drop after pending ++ more) ∙ sym e
+marked_source : (ra rb : Option (List ℕ)) (source rest more : List ℕ) (read : ReadsMark ra rb source rest)
+    → kept (source_in (parts_of (read.taken ++ more))) ≡ source
+marked_source ra rb source rest more read =
+    ap (λ l. kept (source_in (parts_of l))) (ap (λ l. l ++ more) read.ends.bytes
+    ∙ append_assoc read.ends.handled rest more) ∙ read.ends.source_is (rest ++ more)
 
-pub Runs_marked : (ra rb w : Option (List ℕ)) (end : Moment) (pending source rest : List ℕ)
-    (at after workers status : ℕ) (book : Option BookView) → Consumes ra rb pending → IsMarked pending at after
-    → source ≡ take at pending → rest ≡ drop after pending
+pub Runs_marked : (ra rb w : Option (List ℕ)) (end : Moment) (source rest : List ℕ)
+    (workers status : ℕ) (book : Option BookView) → ReadsMark ra rb source rest
     → Serves (moment_of rb w rest) end workers source status book
     → RunsToEnd (moment_of ra w []) end workers None status book
-Runs_marked ra rb w end pending source rest at after workers status book read p e d q =
+Runs_marked ra rb w end source rest workers status book read q =
     let verdict = q.verdict in
     let runs = q.runs in
-    let kept = q.with_book in
+    let served = q.with_book in
     let done = Done_then (moment_of ra w []) (moment_of rb w rest) end
-    (script_by verdict workers runs None) (due_for verdict workers runs source) kept.view
-    (Marked_advance ra rb w pending source rest at after workers verdict runs read p e d) kept.done in
-    let same = marked_source pending source q.with_book.done.taken at after p e in
+    (script_by verdict workers runs None) (due_for verdict workers runs source) served.view
+    (Marked_advance ra rb w source rest workers verdict runs read) served.done in
+    let same = marked_source ra rb source rest q.with_book.done.taken read in
     record {
-      taken = pending ++ q.with_book.done.taken;
+      taken = read.taken ++ q.with_book.done.taken;
       verdict = verdict;
       judged = subst (λ l. IsVerdict l verdict) (sym same) q.judged;
       runs = runs;
       consumes = done.consumes;
       appends = done.appends;
-      book_is = kept.book_is ∙ ap book_of done.left;
+      book_is = served.book_is ∙ ap book_of done.left;
       status_is = q.status_is;
       stops = elim done.stops [
         | inl nothing_left ↦ inl nothing_left
         | inr settled ↦ inr (record {
-          source = λ future. ap (λ l. source_in (parts_of l)) (append_assoc pending q.with_book.done.taken future)
-              ∙ marked_source pending source (q.with_book.done.taken ++ future) at after p e ∙ sym same;
+          source = λ future. ap (λ l. kept (source_in (parts_of l)))
+              (append_assoc read.taken q.with_book.done.taken future)
+              ∙ marked_source ra rb source rest (q.with_book.done.taken ++ future) read ∙ sym same;
           script = settled;
         })
       ];
     }
 
-pub Runs_unmarked : (before after : Moment) (pending source : List ℕ) (at workers status : ℕ)
-    (book : Option BookView) → Consumes before.left after.left pending → IsAtEnd after.left → IsUnmarked pending at
-    → source ≡ take at pending → ServesAlone before.held after.held workers source status book
+pub Runs_unmarked : (before after : Moment) (source : List ℕ) (workers status : ℕ)
+    (book : Option BookView) → ReadsToEnd before.left after.left source
+    → ServesAlone before.held after.held workers source status book
     → RunsToEnd before after workers None status book
-Runs_unmarked before after pending source at workers status book read end p e q =
+Runs_unmarked before after source workers status book read q =
     let verdict = q.verdict in
     let runs : List FreeRun = [] in
-    let same : source_in (parts_of pending) ≡ source = p.source ∙ sym e in
-    let all : script_by verdict workers runs None pending ≡ transcript_of verdict workers runs source [] =
-    ap (λ l. transcript_of verdict workers runs l (commands_in (parts_of pending))) same
-    ∙ ap (λ l. transcript_of verdict workers runs source l) p.commands in
+    let all : script_by verdict workers runs None read.taken ≡ transcript_of verdict workers runs source [] =
+    ap (λ l. transcript_of verdict workers runs l (commands_in (parts_of read.taken))) read.source_is
+    ∙ ap (λ l. transcript_of verdict workers runs source l) read.commands_are in
     record {
-      taken = pending;
+      taken = read.taken;
       verdict = verdict;
-      judged = subst (λ l. IsVerdict l verdict) (sym same) q.judged;
+      judged = subst (λ l. IsVerdict l verdict) (sym read.source_is) q.judged;
       runs = runs;
-      consumes = read;
+      consumes = read.consumes;
       appends = subst (λ (t : Transcript Debugger). Appends before.held after.held t.text) (sym all) q.appends;
       book_is = q.book_is ∙ sym (ap (λ (t : Transcript Debugger). book_of t.view) all);
       status_is = q.status_is;
-      stops = inl end;
+      stops = inl read.at_end;
     }
 
 pub Runs_given : (left held : Option (List ℕ)) (after : Moment) (source : List ℕ) (workers status : ℕ)
@@ -134,12 +131,6 @@ unwritten before after taken workers given fault read wrote other = record {
   answered = λ is_read. absurd (other is_read);
 }
 
-pub Breaks_for_memory : (ra rb w : Option (List ℕ)) (taken : List ℕ) (workers : ℕ) (given : Option (List ℕ))
-    (fault : ShellFault) → Consumes ra rb taken → fault ≡ Memory
-    → BreaksOffRun (moment_of ra w []) (moment_of rb w []) workers given fault
-Breaks_for_memory ra rb w taken workers given fault read is_memory = unwritten (moment_of ra w []) (moment_of rb w [])
-    taken workers given fault read (Appends-nil w) (λ is_read. cc)
-
 pub Breaks_reading : (ra rb w : Option (List ℕ)) (workers : ℕ) (fault : ShellFault) → ReadsNoMark ra rb fault
     → BreaksOffRun (moment_of ra w []) (moment_of rb w []) workers None fault
 Breaks_reading ra rb w workers fault p = record {
@@ -171,20 +162,19 @@ begun left held after workers given fault verdict runs part judged = record {
   });
 }
 
-pub Breaks_marked : (ra rb w : Option (List ℕ)) (end : Moment) (pending source rest : List ℕ) (at after workers : ℕ)
-    (fault : ShellFault) → Consumes ra rb pending → IsMarked pending at after
-    → source ≡ take at pending → rest ≡ drop after pending
+pub Breaks_marked : (ra rb w : Option (List ℕ)) (end : Moment) (source rest : List ℕ) (workers : ℕ)
+    (fault : ShellFault) → ReadsMark ra rb source rest
     → BreaksOffServing (moment_of rb w rest) end workers source fault
     → BreaksOffRun (moment_of ra w []) end workers None fault
-Breaks_marked ra rb w end pending source rest at after workers fault read p e d (inl q) =
-    unwritten (moment_of ra w []) end (pending ++ []) workers None fault (Consumes-trans _ _ _ _ _ read q.consumes)
-    q.appends q.no_read
-Breaks_marked ra rb w end pending source rest at after workers fault read p e d (inr q) =
+Breaks_marked ra rb w end source rest workers fault read (inl q) =
+    unwritten (moment_of ra w []) end (read.taken ++ []) workers None fault
+    (Consumes-trans _ _ _ _ _ read.consumes q.consumes) q.appends q.no_read
+Breaks_marked ra rb w end source rest workers fault read (inr q) =
     begun ra w end workers None fault q.verdict q.runs
     (Breaks_then (moment_of ra w []) (moment_of rb w rest) end
     (script_by q.verdict workers q.runs None) (due_for q.verdict workers q.runs source) fault
-    (Marked_advance ra rb w pending source rest at after workers q.verdict q.runs read p e d) q.part)
-    (subst (λ l. IsVerdict l q.verdict) (sym (marked_source pending source q.part.taken at after p e)) q.judged)
+    (Marked_advance ra rb w source rest workers q.verdict q.runs read) q.part)
+    (subst (λ l. IsVerdict l q.verdict) (sym (marked_source ra rb source rest q.part.taken read)) q.judged)
 
 pub Breaks_given : (left held : Option (List ℕ)) (after : Moment) (source : List ℕ) (workers : ℕ)
     (fault : ShellFault) → BreaksOffServing (moment_of left held []) after workers source fault
@@ -194,26 +184,24 @@ Breaks_given left held after source workers fault (inl q) = unwritten (moment_of
 Breaks_given left held after source workers fault (inr q) = begun left held after workers (Some source) fault q.verdict
     q.runs q.part q.judged
 
-alone : (before after : Moment) (pending source : List ℕ) (at workers : ℕ) (fault : ShellFault)
-    → Consumes before.left after.left pending → IsUnmarked pending at
-    → source ≡ take at pending → fault ≢ Read
+alone : (before after : Moment) (source : List ℕ) (workers : ℕ) (fault : ShellFault)
+    → ReadsToEnd before.left after.left source → fault ≢ Read
     → Appends before.held after.held [] ⊎ ServesAlonePart before.held after.held workers source
     → BreaksOffRun before after workers None fault
-alone before after pending source at workers fault read p e other (inl wrote) = unwritten before after pending workers
-    None fault read wrote other
-alone before after pending source at workers fault read p e other (inr q) =
-    let same : source_in (parts_of pending) ≡ source = p.source ∙ sym e in
-    let all : script_by q.verdict workers [] None pending ≡ transcript_of q.verdict workers [] source [] =
-    ap (λ l. transcript_of q.verdict workers [] l (commands_in (parts_of pending))) same
-    ∙ ap (λ l. transcript_of q.verdict workers [] source l) p.commands in
+alone before after source workers fault read other (inl wrote) = unwritten before after read.taken workers
+    None fault read.consumes wrote other
+alone before after source workers fault read other (inr q) =
+    let all : script_by q.verdict workers [] None read.taken ≡ transcript_of q.verdict workers [] source [] =
+    ap (λ l. transcript_of q.verdict workers [] l (commands_in (parts_of read.taken))) read.source_is
+    ∙ ap (λ l. transcript_of q.verdict workers [] source l) read.commands_are in
     record {
-      taken = pending;
+      taken = read.taken;
       text = q.part.sent;
-      consumes = read;
+      consumes = read.consumes;
       appends = q.part.appends;
       begins = inr (record {
         verdict = q.verdict;
-        judged = subst (λ l. IsVerdict l q.verdict) (sym same) q.judged;
+        judged = subst (λ l. IsVerdict l q.verdict) (sym read.source_is) q.judged;
         runs = [];
         begins = record {
           rest = q.part.begins.rest;
@@ -224,12 +212,11 @@ alone before after pending source at workers fault read p e other (inr q) =
       answered = λ is_read. absurd (other is_read);
     }
 
-pub Breaks_unmarked : (before after : Moment) (pending source : List ℕ) (at workers : ℕ) (fault : ShellFault)
-    → Consumes before.left after.left pending → IsUnmarked pending at
-    → source ≡ take at pending → BreaksOffAlone before.held after.held workers source fault
+pub Breaks_unmarked : (before after : Moment) (source : List ℕ) (workers : ℕ) (fault : ShellFault)
+    → ReadsToEnd before.left after.left source → BreaksOffAlone before.held after.held workers source fault
     → BreaksOffRun before after workers None fault
-Breaks_unmarked before after pending source at workers fault read p e q = alone before after pending source at workers
-    fault read p e q.no_read q.part
+Breaks_unmarked before after source workers fault read q = alone before after source workers
+    fault read q.no_read q.part
 
 whole_of : (wa wb : Option (List ℕ)) (workers : ℕ) (given : Option (List ℕ)) (input taken rest : List ℕ)
     (verdict : Result Raw SourceFault) (runs : List FreeRun) → input ≡ taken ++ rest

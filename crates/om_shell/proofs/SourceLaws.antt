@@ -1,35 +1,37 @@
 -- The source, a line at a time.
 use Rattle.std.proofs.Common.{◌≡◌, ℕ, ◌+◌, ◌<◌, ◌≤◌, Bool, true, false, cond, List, [], ◌∷◌, ◌++◌, ◌==◌, length, take}
-use Rattle.std.proofs.Common.{drop, refl, sym, ap, ◌∙◌, arith, append_assoc, append-nil, inr, take-add, length-drop}
-use Rattle.std.proofs.Common.{length-append, take-append-drop, take_all, get_or, eqb-true}
+use Rattle.std.proofs.Common.{drop, refl, sym, subst, ap, ◌∙◌, arith, append_assoc, append-nil, inl, inr}
+use Rattle.std.proofs.Common.{take-add, length-drop, length-append, take-append-drop, take_all, get_or, eqb-true}
 use Rattle.std.specs.List.{position_or_len}
 use Rattle.std.specs.Str.Lines.{lines, lines_of_parts, strip_carriage_return}
 use Rattle.std.proofs.lemmas.List.{take-append-le, take_more}
 use Rattle.std.proofs.lemmas.List.Sums.{passes_at_first}
 use Rattle.om_shell.specs.Lines.{parts_of, source_in, commands_in, has_mark, is_mark}
 use Rattle.om_shell.specs.Lines.{HasNoLineEnd}
+use Rattle.om_shell.specs.Progress.{AreWholeLines}
 use Rattle.om_shell.specs.Source.{Scanned, IsMarked, IsUnmarked}
 use Rattle.om_shell.proofs.LineLaws.{first_part, part_of_any, only_part}
 
 pub Scanned_none : (bytes : List ℕ) → Scanned bytes 0
 Scanned_none bytes = record {
   within = omega arith;
+  whole = inl refl;
   source = λ future. refl;
   commands = λ future. refl;
   unmarked = λ future. refl;
 }
 
-source_cons : (part : List ℕ) (parts : List (List ℕ)) (next : List ℕ) (more : List (List ℕ)) (b : Bool) → parts
+pub source_cons : (part : List ℕ) (parts : List (List ℕ)) (next : List ℕ) (more : List (List ℕ)) (b : Bool) → parts
     ≡ next ∷ more → is_mark (strip_carriage_return part) ≡ b
     → source_in (part ∷ parts) ≡ cond b [] (part ++ 10 ∷ source_in parts)
 source_cons part parts next more b e is = rw (e, ← is) refl
 
-commands_cons : (part : List ℕ) (parts : List (List ℕ)) (next : List ℕ) (more : List (List ℕ)) (b : Bool) → parts
+pub commands_cons : (part : List ℕ) (parts : List (List ℕ)) (next : List ℕ) (more : List (List ℕ)) (b : Bool) → parts
     ≡ next ∷ more → is_mark (strip_carriage_return part) ≡ b
     → commands_in (part ∷ parts) ≡ cond b (lines_of_parts parts) (commands_in parts)
 commands_cons part parts next more b e is = rw (e, ← is) refl
 
-mark_cons : (part : List ℕ) (parts : List (List ℕ)) (next : List ℕ) (more : List (List ℕ)) (b : Bool) → parts ≡ next
+pub mark_cons : (part : List ℕ) (parts : List (List ℕ)) (next : List ℕ) (more : List (List ℕ)) (b : Bool) → parts ≡ next
     ∷ more → is_mark (strip_carriage_return part) ≡ b
     → has_mark (part ∷ parts) ≡ cond b true (has_mark parts)
 mark_cons part parts next more b e is = rw (e, ← is) refl
@@ -78,11 +80,21 @@ cut : (bytes future : List ℕ) (at n : ℕ) → take (at + (n + 1)) bytes ++ fu
 cut bytes future at n = ap (λ l. l ++ future) (take-add at (n + 1) bytes) ∙ append_assoc (take at bytes)
     (take (n + 1) (drop at bytes)) future
 
+-- whole lines up to `at`, and a next one
+with_line : (bytes : List ℕ) (at n : ℕ) → n ≡ position_or_len (λ byte. byte == 10) (drop at bytes)
+    → n < length (drop at bytes) → (front : List ℕ) × (take (at + (n + 1)) bytes ≡ front ++ 10 ∷ [])
+with_line bytes at n e bound = (
+  take at bytes ++ take n (drop at bytes),
+  take-add at (n + 1) bytes ∙ ap (λ l. take at bytes ++ l) (line_with_end (drop at bytes) n e bound)
+      ∙ sym (append_assoc (take at bytes) (take n (drop at bytes)) (10 ∷ [])),
+)
+
 pub Scanned_more : (bytes : List ℕ) (at n : ℕ) → Scanned bytes at → n ≡ position_or_len (λ byte. byte == 10)
     (drop at bytes) → n < length (drop at bytes)
     → is_mark (strip_carriage_return (take n (drop at bytes))) ≡ false → Scanned bytes (at + (n + 1))
 Scanned_more bytes at n so_far e bound is = record {
   within = omega (arith, so_far.within, length-drop at bytes);
+  whole = inr (with_line bytes at n e bound);
   source = λ future.
       ap (λ l. source_in (parts_of l)) (cut bytes future at n) ∙ so_far.source (take (n + 1) (drop at bytes) ++ future)
       ∙ ap (λ l. take at bytes ++ l) (source_first (drop at bytes) future n false e bound is)
@@ -104,11 +116,7 @@ pub Marked_here : (bytes : List ℕ) (at n : ℕ) → Scanned bytes at → n ≡
 Marked_here bytes at n so_far e bound is = record {
   before = so_far.within;
   within = omega (arith, so_far.within, length-drop at bytes);
-  whole = inr (
-    take at bytes ++ take n (drop at bytes),
-    take-add at (n + 1) bytes ∙ ap (λ l. take at bytes ++ l) (line_with_end (drop at bytes) n e bound)
-        ∙ sym (append_assoc (take at bytes) (take n (drop at bytes)) (10 ∷ [])),
-  );
+  ended = with_line bytes at n e bound;
   source = λ future.
       ap (λ l. source_in (parts_of l)) (cut bytes future at n) ∙ so_far.source (take (n + 1) (drop at bytes) ++ future)
       ∙ ap (λ l. take at bytes ++ l) (source_first (drop at bytes) future n true e bound is)
@@ -124,12 +132,13 @@ Scanned_longer bytes more at p =
     let same : take at (bytes ++ more) ≡ take at bytes = take-append-le at bytes more p.within in
     record {
       within = omega (arith, p.within, length-append bytes more);
+      whole = subst AreWholeLines (sym same) p.whole;
       source = λ future. rw same (p.source future);
       commands = λ future. rw same (p.commands future);
       unmarked = λ future. rw same (p.unmarked future);
     }
 
-source_last : (part : List ℕ) (b : Bool) → is_mark part ≡ b → source_in (part ∷ []) ≡ cond b [] part
+pub source_last : (part : List ℕ) (b : Bool) → is_mark part ≡ b → source_in (part ∷ []) ≡ cond b [] part
 source_last part b is = rw (← is) refl
 
 last_end : (bytes : List ℕ) (at end : ℕ) (b : Bool) → at ≤ length bytes → end ≡ cond b at (length bytes)

@@ -4,6 +4,7 @@ pub mod Progress
 pub mod Batch
 pub mod Source
 pub mod Sessions
+pub mod Stubs
 pub mod Places
 pub mod Script
 pub mod Ends

@@ -1,5 +1,5 @@
 -- How the bytes that are read fall into a source and lines of commands.
-use Rattle.std.specs.Prelude.{◌≡◌, ℕ, Bool, true, false, List, [], ◌∷◌, ◌++◌, ◌==◌, if◌then◌else◌, codes, length}
+use Rattle.std.specs.Prelude.{◌≡◌, ℕ, Bool, true, false, List, [], ◌∷◌, ◌++◌, ◌==◌, if◌then◌else◌, codes, length, take}
 use Rattle.std.specs.List.{slice_split, position_or_len}
 use Rattle.std.specs.Str.{bytes_eq}
 use Rattle.std.specs.Str.Lines.{strip_carriage_return, lines_of_parts}
@@ -35,3 +35,7 @@ abbrev pub has_mark : List (List ℕ) → Bool
 has_mark [] = false
 has_mark (part ∷ []) = false
 has_mark (part ∷ (next ∷ more)) = if is_mark (strip_carriage_return part) then true else has_mark (next ∷ more)
+
+-- what is kept of a source: its first 4,194,304 bytes, four times as many as it may have
+unfoldable pub kept : List ℕ → List ℕ
+kept source = take 4194304 source

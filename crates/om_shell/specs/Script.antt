@@ -3,7 +3,7 @@
 use Rattle.std.specs.Prelude.{◌≡◌, ℕ, List, Option, None, Some, Result, Ok, Err}
 use Rattle.std.specs.Str.Lines.{lines}
 use Rattle.om_lexer.specs.declared.fault.SourceFault.{SourceFault}
-use Rattle.om_shell.specs.Lines.{parts_of, source_in, commands_in}
+use Rattle.om_shell.specs.Lines.{parts_of, source_in, commands_in, kept}
 use Rattle.om_shell.specs.Places.{refusal_text}
 use Rattle.om_shell.specs.Sessions.{session}
 use Rattle.om_shell.specs.Transcript.{Transcript}
@@ -14,10 +14,10 @@ use Rattle.om_shell_debugger.specs.declared.debugger.Debugger.{Debugger}
 use Rattle.om_shell_debugger.specs.Freed.{FreeRun}
 use Rattle.om_shell_debugger.specs.Views.{opened}
 
--- the source of a run: it is handed in, or stands in front of the mark's line
+-- the source of a run: it is handed in, or is what is kept of the bytes in front of the mark's line
 abbrev pub source_of : Option (List ℕ) → List ℕ → List ℕ
 source_of (Some source) input = source
-source_of None input = source_in (parts_of input)
+source_of None input = kept (source_in (parts_of input))
 
 -- the lines of commands
 abbrev pub commands_of : Option (List ℕ) → List ℕ → List (List ℕ)

@@ -49,7 +49,8 @@ fn answer_lines<R: Threads + Wait + Sync, W: Write>(
 
 /// Answers commands up to a `quit` or the end of the input, each before anything more is read.
 ///
-/// Each byte is looked at a bounded number of times, however long the lines are.
+/// Of a line that is too long no more is kept than shows it. Each byte is looked at a bounded number of
+/// times, however long the lines are.
 pub(crate) fn converse<H: Threads + Wait + Sync, R: Read, W: Write>(
     session: &mut Session<'_, H>,
     input: &mut Input,
@@ -74,6 +75,7 @@ pub(crate) fn converse<H: Threads + Wait + Sync, R: Read, W: Write>(
             return Ok(());
         }
         input.discard(used);
+        input.shorten();
         searched = input.pending.len();
         if !input.read_more(reader)? {
             session.answer(&input.pending, writer)?;

@@ -18,6 +18,9 @@ const MOST_READS: u64 = 1 << 32;
 // How many bytes a read asks for.
 const CHUNK: usize = 16_384;
 
+// Of a line that is not yet ended so many bytes are kept at most: a carriage return may be the last one.
+const TOO_LONG: usize = 1_026;
+
 /// The bytes that were read and not yet answered, and how many more reads there may be.
 pub struct Input {
     pub pending: Vec<u8>,
@@ -56,6 +59,14 @@ impl Input {
         let left = self.pending.len() - used;
         self.pending.copy_within(used.., 0);
         self.pending.truncate(left);
+    }
+
+    /// Lets all but the first 1,026 pending bytes go. A line that begins with so many is too long, whatever follows.
+    pub(crate) fn shorten(&mut self)
+        ensures pending { self.new.pending.items ≡ take 1026 self.old.pending.items }
+        ensures reads { self.new.reads_left ≡ self.old.reads_left }
+    {
+        self.pending.truncate(TOO_LONG);
     }
 
     /// Reads once, and answers whether the input may go on.

@@ -3,13 +3,13 @@
 //! `run` reads a source and then commands, and writes each answer before it reads on. It answers how the run
 //! ended (`Ended`), or what broke it off (`ShellFault`).
 //!
-//! - `source` reads up to the line `%%`. `serve` tells a refusal or opens a session, and `conversation`
-//!   answers each line. `session` holds the debugger and the answers that are not written yet. `refusal`
-//!   writes the line of a refusal.
+//! - `source` reads up to the line `%%`, and keeps as much of a source as suffices to refuse it. `serve` tells
+//!   a refusal or opens a session, and `conversation` answers each line. `session` holds the debugger and the
+//!   answers that are not written yet. `refusal` writes the line of a refusal.
 //! - `output` alone writes, and `input` alone reads a session.
-//! - Both programs use `file`, which reads a file or a reader whole. They use `Outcome`, which names how a
-//!   program ends, and `words_of`, the words that it was called with. omplab uses `session_bytes`, which cuts
-//!   a session that was read whole into its source and its commands. It uses `line_behind` and
+//! - Both programs use `file`, which reads a source in a file, or a reader whole. They use `Outcome`, which
+//!   names how a program ends, and `words_of`, the words that it was called with. omplab uses `session_bytes`,
+//!   which cuts a session that was read whole into its source and its commands. It uses `line_behind` and
 //!   `column_behind`, which count lines and columns.
 //!
 //! Cases: the sessions of gate_cases.

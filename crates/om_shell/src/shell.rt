@@ -1,7 +1,7 @@
 //! A run: a source, and then commands, each answered before more is read. It is told options besides its
 //! input.
 
-ghost use Rattle.std.specs.Prelude.{◌≡◌, ◌<◌, ◌≤◌, [], None, take, length, IfOk, IfErr, OnOk, IfSome, option_copied};
+ghost use Rattle.std.specs.Prelude.{◌≡◌, ◌<◌, ◌≤◌, [], None, IfOk, IfErr, OnOk, IfSome, option_copied};
 ghost use Rattle.std.specs.Io.KnownBytes.{Appends};
 ghost use Rattle.om_shell.specs.Ends.{RunsToEnd, BreaksOffRun, WritesScript};
 ghost use Rattle.om_shell.specs.Progress.{moment_of};
@@ -21,17 +21,9 @@ use std::thread::Threads;
 pub struct Options<'a> {
     /// How many workers there are, 1 to 32.
     pub workers: u8,
-    /// The source; where there is none, it stands at the front of the input, up to a line `%%`.
+    /// The source; where there is none, it stands at the front of the input, up to a line `%%`. Of that one
+    /// the first 4,194,304 bytes are kept.
     pub source: Option<&'a [u8]>,
-}
-
-// A copy of the first bytes.
-fn source_bytes(alloc: Global, bytes: &[u8], end: usize) -> Result<Vec<u8>, ShellFault>
-    requires { end ≤ length bytes.now }
-    ensures source { IfOk result (λ source. source.items ≡ take end bytes.now) }
-    ensures want_of_memory { IfErr result (λ fault. fault ≡ ShellFault.Memory) }
-{
-    Ok(Vec::from_slice(alloc, &bytes[..end])?)
 }
 
 // A run whose source stands at the front of the input.
@@ -52,14 +44,12 @@ fn run_from_input<H: Threads + Wait + Sync, R: Read, W: Write>(
         host.now.workers None) }
 {
     let mut input = Input::new(host.alloc);
-    let (end, after) = read_source(&mut input, reader)?;
-    let source = source_bytes(host.alloc, &input.pending, end)?;
-    match after {
-        Some(after) => {
-            input.discard(after);
-            host.serve(&source, &mut input, reader, writer)
-        }
-        None => serve_alone(host.alloc, host.workers, &source, writer),
+    let mut source = Vec::new(host.alloc);
+    let marked = read_source(&mut source, &mut input, reader)?;
+    if marked {
+        host.serve(&source, &mut input, reader, writer)
+    } else {
+        serve_alone(host.alloc, host.workers, &source, writer)
     }
 }
 
@@ -89,8 +79,10 @@ fn run_by<H: Threads + Wait + Sync, R: Read, W: Write>(
 /// Reads a source, unless one is handed in, and commands, and answers each before it reads on.
 ///
 /// Bytes are taken from the reader in pieces, up to 2^32 of them, and each reply is written and flushed before the
-/// next read. Without a fault it stops at the end of the input, at the command `quit`, or where a source that was read
-/// to its end is refused. A free run starts threads by `rt`, and joins them before its reply. Faults:
+/// next read. Of a source its first 4,194,304 bytes are kept, and of a line of commands that is not yet ended its
+/// first 1,026. Further bytes are read and dropped, so an input takes no more memory however long it is.
+/// Without a fault it stops at the end of the input, at the command `quit`, or where a source that was read to its
+/// end is refused. A free run starts threads by `rt`, and joins them before its reply. Faults:
 /// - `Read` (H3): a read failed, or 2^32 reads were made.
 /// - `Write` (H4): a write or a flush failed.
 /// - `Memory` (H5): there was no memory, no thread for a free run, or a receipt of one did not stand.
