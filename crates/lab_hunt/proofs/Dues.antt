@@ -6,8 +6,11 @@ use Rattle.lab_judge.specs.declared.judge.Wanted.{Wanted}
 use Rattle.lab_judge.specs.Bad.{standard_by, wanted_by}
 use Rattle.lab_judge.specs.Texts.{text_in}
 use Rattle.lab_schedules.specs.declared.hunted.Found.{Found}
+use Rattle.lab_schedules.specs.declared.seeds.Ground.{Ground}
+use Rattle.lab_hunt.specs.declared.tries.Tried.{Tried}
+use Rattle.lab_hunt.specs.declared.tries.Tried.TheVariants as tried
 use Rattle.lab_hunt.specs.Finds.{IsDue, IsFound, Prints}
-use Rattle.lab_hunt.specs.Tries.{IsFoundBy, IsFoundFrom, IsOfSeed}
+use Rattle.lab_hunt.specs.Tries.{IsEnding, IsFoundBy, IsFoundFrom, IsOfSeed, IsTriedOn}
 use Rattle.om_undo.specs.Machines.{MachineView}
 
 -- what is told, or else printed by `run` alone
@@ -59,3 +62,10 @@ from_seed workers source printed seed wanted other found none p e f by =
       is = by.is;
       of_seed = of_seed workers source printed seed _ _ (by.standard ∙ e) (by.text ∙ f) p;
     })
+
+-- a schedule that came to an end was tried
+pub tried_to_end : (source : List ℕ) (g : Ground) (printed : Option (List ℕ)) (t : Tried) → IsEnding g printed t
+    → ((bytes : List ℕ) → printed ≡ Some bytes → Prints g.workers source bytes) → IsTriedOn source g t
+tried_to_end source g printed (tried.Bad found) e p = absurd e
+tried_to_end source g printed (tried.Ends seed output) e p = (e.0, p output.items e.1)
+tried_to_end source g printed tried.Nothing e p = absurd e
