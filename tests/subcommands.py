@@ -87,7 +87,7 @@ IN_FRONT = "int x;\nint main(void)\n{\n    x = 1;\n}\n%%\nstep 0\nstepp 0\nstep 
 TURNED_DOWN = "line 8: stepp 0: H1 unknown command\nline 9: step 7: H2 bad argument\nline 10: step 1: blocked B5\n"
 REFUSED_UNDO = "line 8: undo 0: refused by #11 worker 1 on global x\n"
 
-NO_END = """nothing bad in the schedules of 1 seeds
+NO_END = """nothing bad in the schedule of 1 seed
 `run` came to no end, and no seed did: no output was compared; give more --steps
 These are not all schedules, and this is no race detector.
 """

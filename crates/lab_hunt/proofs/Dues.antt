@@ -1,71 +1,88 @@
--- What is wanted of a bad schedule that was found.
-use Rattle.std.proofs.Common.{◌≡◌, ◌⊎◌, ℕ, List, Option, None, Some, IsSomeAnd, refl, sym, ◌∙◌, subst, inl, inr}
+-- What is wanted of schedules that were tried.
+use Rattle.std.proofs.Common.{◌≡◌, ℕ, suc, List, Option, None, Some, is_some, true}
+use Rattle.std.proofs.Common.{refl, sym, ◌∙◌, subst, inl, inr, arith}
+use Rattle.std.proofs.lemmas.Option.{IfSome_then}
 use Rattle.lab_judge.specs.declared.judge.Standard.{Standard}
 use Rattle.lab_judge.specs.declared.judge.Standard.TheVariants as standard
-use Rattle.lab_judge.specs.declared.judge.Wanted.{Wanted}
 use Rattle.lab_judge.specs.Bad.{standard_by, wanted_by}
 use Rattle.lab_judge.specs.Texts.{text_in}
+use Rattle.lab_schedules.specs.declared.hunted.Aims.{Aims}
 use Rattle.lab_schedules.specs.declared.hunted.Found.{Found}
 use Rattle.lab_schedules.specs.declared.seeds.Ground.{Ground}
-use Rattle.lab_hunt.specs.declared.tries.Tried.{Tried}
-use Rattle.lab_hunt.specs.declared.tries.Tried.TheVariants as tried
-use Rattle.lab_hunt.specs.Finds.{IsDue, IsFound, Prints}
-use Rattle.lab_hunt.specs.Tries.{IsEnding, IsFoundBy, IsFoundFrom, IsOfSeed, IsTriedOn}
+use Rattle.lab_hunt.specs.declared.hunting.Sought.{Sought}
+use Rattle.lab_hunt.specs.Finds.{IsCompared, IsDue, told_in}
+use Rattle.lab_hunt.specs.Tries.{IsComparedAfter, IsComparedOn, IsDueOn, IsFoundAfter, IsFoundOn}
+use Rattle.lab_hunt.specs.Tries.{IsOfSeedBefore, IsSought}
 use Rattle.om_undo.specs.Machines.{MachineView}
 
+-- a bad schedule, by what is wanted on the ground
+pub found_on : (g : Ground) (source : List ℕ) (after : ℕ) (found : Found) → IsFoundAfter g source after found
+    → IsFoundOn g source found
+found_on g source after found p = record {
+  from_one = omega (arith, p.later);
+  within = p.within;
+  is = p.is;
+  due = inl (p.standard, p.text);
+}
+
+known_text : (text : Option (List ℕ)) → is_some text ≡ true → (t : List ℕ) × (text ≡ Some t)
+known_text (Some t) h = (t, refl)
+known_text None h = cc
+
+-- outputs were compared with what is wanted on the ground
+compared_on : (g : Ground) (source : List ℕ) (by : Option Standard) → is_some (text_in g.wanted.now.text) ≡ true
+    → by ≡ Some g.wanted.now.standard → IsComparedOn g source by
+compared_on g source (Some by) known is =
+    let text = known_text (text_in g.wanted.now.text) known in
+    (text.0, inl ((cc), sym text.1))
+compared_on g source None known is = cc
+
+pub sought_on : (g : Ground) (source : List ℕ) (after : ℕ) (sought : Sought)
+    → is_some (text_in g.wanted.now.text) ≡ true → IsComparedAfter g source after sought → IsSought g source sought
+sought_on g source after sought known p = record {
+  found = IfSome_then sought.found p.found (found_on g source after);
+  compared = compared_on g source sought.compared known p.compared;
+}
+
 -- what is told, or else printed by `run` alone
-pub due_first : (workers : ℕ) (source : List ℕ) (expected : Option (List ℕ)) (alone : MachineView) (by : Standard)
-    (text : Option (List ℕ)) → by ≡ standard_by expected → text ≡ wanted_by expected alone
-    → IsDue workers source expected alone by text
-due_first workers source (Some told) alone by text e f =
-    subst (λ s. IsDue workers source (Some told) alone s text) (sym e) (refl, f)
-due_first workers source None alone by text e f =
-    subst (λ s. IsDue workers source None alone s text) (sym e) (refl, f)
+due_first : (aims : Aims) (source : List ℕ) (expected : Option (List ℕ)) (alone : MachineView) (before : ℕ)
+    (by : Standard) (text : Option (List ℕ)) → told_in aims ≡ expected → by ≡ standard_by expected
+    → text ≡ wanted_by expected alone → IsDue aims source alone before by text
+due_first aims source (Some told) alone before by text is e f =
+    subst (λ s. IsDue aims source alone before s text) (sym e) (rw is refl, rw is f)
+due_first aims source None alone before by text is e f =
+    subst (λ s. IsDue aims source alone before s text) (sym e) (rw is refl, rw is f)
 
 -- what the schedule of a seed printed
-due_later : (workers : ℕ) (source : List ℕ) (expected : Option (List ℕ)) (alone : MachineView) (by : Standard)
-    (text : Option (List ℕ)) → wanted_by expected alone ≡ None → IsOfSeed workers source by text
-    → IsDue workers source expected alone by text
-due_later workers source expected alone standard.Told text none p = absurd p
-due_later workers source expected alone standard.Run text none p = absurd p
-due_later workers source expected alone (standard.Seed seed) text none p = (none, p)
+due_later : (aims : Aims) (source : List ℕ) (alone : MachineView) (before : ℕ) (by : Standard)
+    (text : Option (List ℕ)) → wanted_by (told_in aims) alone ≡ None
+    → IsOfSeedBefore aims.workers source before by text → IsDue aims source alone before by text
+due_later aims source alone before standard.Told text none p = absurd p
+due_later aims source alone before standard.Run text none p = absurd p
+due_later aims source alone before (standard.Seed seed) text none p = (none, p)
 
-pub due_from : (workers : ℕ) (source : List ℕ) (expected : Option (List ℕ)) (alone : MachineView) (wanted : Wanted)
-    (found : Found) → wanted.standard ≡ standard_by expected → text_in wanted.text ≡ wanted_by expected alone
-    → IsFoundFrom workers source wanted found
-    → IsDue workers source expected alone found.wanted.standard (text_in found.wanted.text)
-due_from workers source expected alone wanted found e f (inl p) =
-    due_first workers source expected alone _ _ (p.standard ∙ e) (p.text ∙ f)
-due_from workers source expected alone wanted found e f (inr q) =
-    due_later workers source expected alone _ _ (sym f ∙ q.none) q.of_seed
+-- what is wanted on the ground of a hunt
+pub due_on : (aims : Aims) (g : Ground) (source : List ℕ) (alone : MachineView) (before : ℕ) (by : Standard)
+    (text : Option (List ℕ)) → g.workers ≡ aims.workers → g.wanted.now.standard ≡ standard_by (told_in aims)
+    → text_in g.wanted.now.text ≡ wanted_by (told_in aims) alone → IsDueOn g source before by text
+    → IsDue aims source alone before by text
+due_on aims g source alone before by text w e f (inl p) =
+    due_first aims source (told_in aims) alone before by text refl (p.0 ∙ e) (p.1 ∙ f)
+due_on aims g source alone before by text w e f (inr q) =
+    due_later aims source alone before by text (sym f ∙ q.0) (rw w at q.1)
 
-pub is_found : (workers : ℕ) (source : List ℕ) (wanted : Wanted) (found : Found)
-    → IsFoundFrom workers source wanted found → IsFound workers source found
-is_found workers source wanted found (inl p) = p.is
-is_found workers source wanted found (inr q) = q.is
+compared_by : (aims : Aims) (g : Ground) (source : List ℕ) (alone : MachineView) (by : Option Standard)
+    → g.workers ≡ aims.workers → g.seeds ≡ aims.seeds → g.wanted.now.standard ≡ standard_by (told_in aims)
+    → text_in g.wanted.now.text ≡ wanted_by (told_in aims) alone → IsComparedOn g source by
+    → IsCompared aims source alone by
+compared_by aims g source alone (Some by) w s e f p =
+    (p.0, due_on aims g source alone (suc aims.seeds) by (Some p.0) w e f (rw s at p.1))
+compared_by aims g source alone None w s e f p = sym f ∙ p
 
-of_seed : (workers : ℕ) (source printed : List ℕ) (seed : ℕ) (by : Standard) (text : Option (List ℕ))
-    → by ≡ standard.Seed seed → text ≡ Some printed → Prints workers source printed
-    → IsOfSeed workers source by text
-of_seed workers source printed seed by text e f p =
-    subst (λ s. IsOfSeed workers source s text) (sym e)
-    (subst (λ t. IsOfSeed workers source (standard.Seed seed) t) (sym f) p)
-
--- a bad schedule where what is wanted is what the schedule of a seed printed
-pub from_seed : (workers : ℕ) (source printed : List ℕ) (seed : ℕ) (wanted other : Wanted) (found : Found)
-    → text_in wanted.text ≡ None → Prints workers source printed → other.standard ≡ standard.Seed seed
-    → text_in other.text ≡ Some printed → IsFoundBy workers source other found
-    → IsFoundFrom workers source wanted found
-from_seed workers source printed seed wanted other found none p e f by =
-    inr (record {
-      none = none;
-      is = by.is;
-      of_seed = of_seed workers source printed seed _ _ (by.standard ∙ e) (by.text ∙ f) p;
-    })
-
--- a schedule that came to an end was tried
-pub tried_to_end : (source : List ℕ) (g : Ground) (printed : Option (List ℕ)) (t : Tried) → IsEnding g printed t
-    → ((bytes : List ℕ) → printed ≡ Some bytes → Prints g.workers source bytes) → IsTriedOn source g t
-tried_to_end source g printed (tried.Bad found) e p = absurd e
-tried_to_end source g printed (tried.Ends seed output) e p = (e.0, p output.items e.1)
-tried_to_end source g printed tried.Nothing e p = absurd e
+-- with what outputs were compared in a hunt
+pub compared_in : (aims : Aims) (g : Ground) (source : List ℕ) (alone : MachineView) (sought : Sought)
+    → g.workers ≡ aims.workers → g.seeds ≡ aims.seeds → g.wanted.now.standard ≡ standard_by (told_in aims)
+    → text_in g.wanted.now.text ≡ wanted_by (told_in aims) alone → IsSought g source sought
+    → IsCompared aims source alone sought.compared
+compared_in aims g source alone sought w s e f p =
+    compared_by aims g source alone sought.compared w s e f p.compared

@@ -1,44 +1,74 @@
 -- For proofs: what came of schedules that were tried.
-use Rattle.std.specs.Prelude.{◌≡◌, ◌⊎◌, ⊤, ℕ, List, Option, None, Some, IsSomeAnd}
+use Rattle.std.specs.Prelude.{◌≡◌, ◌<◌, ◌≤◌, ◌⊎◌, ⊤, ℕ, suc, List, Option, None, Some, IfSome}
 use Rattle.lab_schedules.specs.declared.hunted.Found.{Found}
 use Rattle.lab_schedules.specs.declared.seeds.Ground.{Ground}
 use Rattle.lab_judge.specs.declared.judge.Standard.{Standard}
 use Rattle.lab_judge.specs.declared.judge.Standard.TheVariants as standard
-use Rattle.lab_judge.specs.declared.judge.Wanted.{Wanted}
 use Rattle.lab_judge.specs.Texts.{text_in}
+use Rattle.lab_hunt.specs.declared.hunting.Sought.{Sought}
 use Rattle.lab_hunt.specs.declared.tries.Tried.{Tried}
 use Rattle.lab_hunt.specs.declared.tries.Tried.TheVariants as tried
-use Rattle.lab_hunt.specs.Finds.{IsFound, Prints}
+use Rattle.lab_hunt.specs.Finds.{IsFound, IsPrintedBefore, Prints}
 
--- a bad schedule was found, where this is wanted
-pub record IsFoundBy (workers : ℕ) (source : List ℕ) (wanted : Wanted) (found : Found) : Type 0 where
-  pub is : IsFound workers source found
-  pub text : text_in found.wanted.text ≡ text_in wanted.text
-  pub standard : found.wanted.standard ≡ wanted.standard
+-- a bad schedule of a later seed was found, by what is wanted on this ground
+pub record IsFoundAfter (g : Ground) (source : List ℕ) (after : ℕ) (found : Found) : Type 0 where
+  pub later : after < found.seed
+  pub within : found.seed ≤ g.seeds
+  pub is : IsFound g.workers source found
+  pub text : text_in found.wanted.text ≡ text_in g.wanted.now.text
+  pub standard : found.wanted.standard ≡ g.wanted.now.standard
 
-abbrev pub IsTriedOn : List ℕ → Ground → Tried → Type 0
-IsTriedOn source g (tried.Bad found) = IsFoundBy g.workers source g.wanted.now found
-IsTriedOn source g (tried.Ends seed output) =
-    (text_in g.wanted.now.text ≡ None) × Prints g.workers source output.items
-IsTriedOn source g tried.Nothing = ⊤
+-- a schedule of a later seed came to an end, where it is not known what is wanted; none of a later one was tried
+pub record EndsAfter (g : Ground) (source : List ℕ) (after last seed : ℕ) (printed : List ℕ) : Type 0 where
+  pub later : after < seed
+  pub within : seed ≤ g.seeds
+  pub is_last : seed ≡ last
+  pub unknown : text_in g.wanted.now.text ≡ None
+  pub prints : Prints g.workers source printed
 
--- it is not known what is wanted, and this was printed at an end
-abbrev pub IsEnding : Ground → Option (List ℕ) → Tried → Type 0
-IsEnding g printed (tried.Ends seed output) = (text_in g.wanted.now.text ≡ None) × (printed ≡ Some output.items)
-IsEnding g printed _ = ⊥
+-- what came of seeds after one, up to another
+abbrev pub IsTriedOn : List ℕ → Ground → ℕ → ℕ → Tried → Type 0
+IsTriedOn source g after last (tried.Bad found) = IsFoundAfter g source after found
+IsTriedOn source g after last (tried.Ends seed output) = EndsAfter g source after last seed output.items
+IsTriedOn source g after last tried.Nothing = ⊤
 
--- a seed's schedule led to what is wanted
-abbrev pub IsOfSeed : ℕ → List ℕ → Standard → Option (List ℕ) → Type 0
-IsOfSeed workers source (standard.Seed seed) text = IsSomeAnd text (Prints workers source)
-IsOfSeed workers source _ text = ⊥
+-- it is not known what is wanted, and a schedule of this seed came to an end, where this was printed
+abbrev pub IsEnding : Ground → ℕ → Option (List ℕ) → Tried → Type 0
+IsEnding g this printed (tried.Bad found) = ⊥
+IsEnding g this printed (tried.Ends seed output) =
+    (text_in g.wanted.now.text ≡ None) × (seed ≡ this) × (printed ≡ Some output.items)
+IsEnding g this printed tried.Nothing = ⊥
 
--- a bad schedule was found where it was not known what is wanted, by what a seed's schedule led to
-pub record IsFoundLater (workers : ℕ) (source : List ℕ) (wanted : Wanted) (found : Found) : Type 0 where
-  pub none : text_in wanted.text ≡ None
-  pub is : IsFound workers source found
-  pub of_seed : IsOfSeed workers source found.wanted.standard (text_in found.wanted.text)
+-- what came of the seeds after one, where it is known what is wanted
+pub record IsComparedAfter (g : Ground) (source : List ℕ) (after : ℕ) (sought : Sought) : Type 0 where
+  pub found : IfSome sought.found (IsFoundAfter g source after)
+  pub compared : sought.compared ≡ Some g.wanted.now.standard
 
--- a bad schedule was found where this is wanted, or what a seed's schedule led to, if this is not known
-abbrev pub IsFoundFrom : ℕ → List ℕ → Wanted → Found → Type 0
-IsFoundFrom workers source wanted found =
-    IsFoundBy workers source wanted found ⊎ IsFoundLater workers source wanted found
+-- the schedule of a seed before another printed what is wanted
+abbrev pub IsOfSeedBefore : ℕ → List ℕ → ℕ → Standard → Option (List ℕ) → Type 0
+IsOfSeedBefore workers source before standard.Told text = ⊥
+IsOfSeedBefore workers source before standard.Run text = ⊥
+IsOfSeedBefore workers source before (standard.Seed seed) text = IsPrintedBefore workers source before seed text
+
+-- what is wanted of the schedule of a seed: what is wanted on this ground, else what an earlier one printed
+abbrev pub IsDueOn : Ground → List ℕ → ℕ → Standard → Option (List ℕ) → Type 0
+IsDueOn g source before by text =
+    ((by ≡ g.wanted.now.standard) × (text ≡ text_in g.wanted.now.text))
+    ⊎ ((text_in g.wanted.now.text ≡ None) × IsOfSeedBefore g.workers source before by text)
+
+-- a bad schedule of a seed was found
+pub record IsFoundOn (g : Ground) (source : List ℕ) (found : Found) : Type 0 where
+  pub from_one : 0 < found.seed
+  pub within : found.seed ≤ g.seeds
+  pub is : IsFound g.workers source found
+  pub due : IsDueOn g source found.seed found.wanted.standard (text_in found.wanted.text)
+
+-- with what outputs were compared in the end
+abbrev pub IsComparedOn : Ground → List ℕ → Option Standard → Type 0
+IsComparedOn g source (Some by) = (text : List ℕ) × IsDueOn g source (suc g.seeds) by (Some text)
+IsComparedOn g source None = text_in g.wanted.now.text ≡ None
+
+-- what came of all seeds
+pub record IsSought (g : Ground) (source : List ℕ) (sought : Sought) : Type 0 where
+  pub found : IfSome sought.found (IsFoundOn g source)
+  pub compared : IsComparedOn g source sought.compared

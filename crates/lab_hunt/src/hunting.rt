@@ -1,9 +1,9 @@
 //! The hunt: schedules by chance, up to the first that is bad, and that one made short.
 
-ghost use Rattle.std.specs.Prelude.{◌≡◌, ◌<◌, ◌≤◌, true, is_some, IfOk, IfSome};
+ghost use Rattle.std.specs.Prelude.{◌≡◌, ◌<◌, ◌≤◌, None, true, is_some, IfOk};
 ghost use Rattle.lab_judge.specs.Texts.{text_in};
 ghost use Rattle.lab_hunt.specs.Finds.{IsHuntBy};
-ghost use Rattle.lab_hunt.specs.Tries.{IsFoundBy, IsFoundFrom};
+ghost use Rattle.lab_hunt.specs.Tries.{IsComparedAfter, IsSought};
 
 use crate::tries::{Field, Tried, Tries};
 use lab_judge::{Alone, Standard, Wanted, alone_of};
@@ -22,10 +22,11 @@ use std::thread::Threads;
 /// what the first schedule prints that comes to an end. First `run` alone is judged, and then the schedule of
 /// each seed; `progress` is told before each seed, and how a bad one is made short. Schedules are tried on a
 /// machine. Before one is answered the debugger runs its script, and what that leaves is judged: the text is
-/// what it wrote. How many it does not find bad is counted, and no clause says so.
+/// what it wrote.
 ///
-/// A hunt that finds nothing says that `run` alone is not bad, and nothing of schedules that it did not try.
-/// Faults are those of the debugger, and out of memory is H5.
+/// A hunt that finds nothing says that `run` alone is not bad, and with what outputs were compared. No clause
+/// says that each seed was tried, which schedule a seed leads to, or how many bad schedules the debugger did not
+/// find bad. Faults are those of the debugger, and out of memory is H5.
 pub fn hunt<H: Threads + Wait + Sync, P: Progress>(
     rt: &H,
     alloc: Global,
@@ -55,8 +56,13 @@ pub fn hunt<H: Threads + Wait + Sync, P: Progress>(
             unconfirmed: 0,
         }));
     }
-    let field = Field { rt, alloc, source };
-    let sought = seek(&field, aims, wanted, progress)?;
+    let ground = Ground {
+        workers: aims.workers,
+        steps: aims.steps,
+        seeds: aims.seeds,
+        wanted: &wanted,
+    };
+    let sought = seek(&Field { rt, alloc, source }, &ground, progress)?;
     match sought.found {
         Some(found) => Ok(Hunted::Found(found)),
         None => Ok(Hunted::Nothing {
@@ -72,96 +78,89 @@ pub fn hunt<H: Threads + Wait + Sync, P: Progress>(
 #[derive(Drop)]
 struct Sought {
     found: Option<Found>,
-    // What outputs were compared with, if one was.
+    // With what outputs were compared, if they were.
     compared: Option<Standard>,
     // How many bad schedules the debugger did not find bad.
     unconfirmed: u64,
 }
 
-// Tries the schedules of seeds, by what is wanted, else by what the first of them prints that comes to an end.
+// Tries the schedules of seeds.
 fn seek<H: Threads + Wait + Sync, P: Progress>(
     field: &Field<'_, H>,
-    aims: &Aims<'_>,
-    wanted: Wanted,
+    ground: &Ground<'_>,
     progress: &mut P,
 ) -> Result<Sought, ShellFault>
-    requires at_least_one { 0 < aims.now.workers }
-    requires at_most_32 { aims.now.workers ≤ 32 }
-    ensures { IfOk result (λ sought. IfSome sought.found
-        (IsFoundFrom aims.now.workers field.now.source.now wanted)) }
+    requires at_least_one { 0 < ground.now.workers }
+    requires at_most_32 { ground.now.workers ≤ 32 }
+    ensures { IfOk result (IsSought ground.now field.now.source.now) }
 {
-    let tries = Tries::over(field, aims.workers)?;
-    if wanted.text.is_some() {
-        return compare(field, aims, wanted, tries, progress);
-    }
-    settle(field, aims, wanted, tries, progress)
+    let mut tries = Tries::over(field, ground.workers)?;
+    let sought = if ground.wanted.text.is_some() {
+        compare(field, ground, &mut tries, progress)
+    } else {
+        settle(field, ground, &mut tries, progress)
+    };
+    drop(tries);
+    sought
 }
 
-// Tries the schedules of seeds, where it is not known what is wanted. It is known from the first on that comes to
-// an end.
+// Tries the schedules of seeds, where it is not known what is wanted. It is what the first of them prints that
+// comes to an end.
 fn settle<H: Threads + Wait + Sync, P: Progress>(
     field: &Field<'_, H>,
-    aims: &Aims<'_>,
-    wanted: Wanted,
-    mut tries: Tries,
+    ground: &Ground<'_>,
+    tries: &mut Tries,
     progress: &mut P,
 ) -> Result<Sought, ShellFault>
-    requires at_least_one { 0 < aims.now.workers }
-    requires at_most_32 { aims.now.workers ≤ 32 }
-    ensures { IfOk result (λ sought. IfSome sought.found
-        (IsFoundFrom aims.now.workers field.now.source.now wanted)) }
+    requires at_least_one { 0 < ground.now.workers }
+    requires at_most_32 { ground.now.workers ≤ 32 }
+    requires unknown { text_in ground.now.wanted.now.text ≡ None }
+    ensures { IfOk result (IsSought ground.now field.now.source.now) }
 {
-    let ground = Ground {
-        workers: aims.workers,
-        steps: aims.steps,
-        seeds: aims.seeds,
-        wanted: &wanted,
-    };
-    match tries.next(field, &ground, progress)? {
-        Tried::Bad(found) => Ok(tries.ended(Some(found), None)),
-        Tried::Nothing => Ok(tries.ended(None, None)),
+    match tries.next(field, ground, progress)? {
+        Tried::Bad(found) => Ok(tries.sought(Some(found), None)),
+        Tried::Nothing => Ok(tries.sought(None, None)),
         Tried::Ends { seed, output } => {
             let printed = Wanted {
                 text: Some(output),
                 standard: Standard::Seed(seed),
             };
-            compare(field, aims, printed, tries, progress)
+            let settled = Ground {
+                workers: ground.workers,
+                steps: ground.steps,
+                seeds: ground.seeds,
+                wanted: &printed,
+            };
+            compare(field, &settled, tries, progress)
         }
     }
 }
 
-// Tries the schedules of seeds, by what is wanted.
+// Tries the schedules of later seeds, by what is wanted.
 fn compare<H: Threads + Wait + Sync, P: Progress>(
     field: &Field<'_, H>,
-    aims: &Aims<'_>,
-    wanted: Wanted,
-    mut tries: Tries,
+    ground: &Ground<'_>,
+    tries: &mut Tries,
     progress: &mut P,
 ) -> Result<Sought, ShellFault>
-    requires at_least_one { 0 < aims.now.workers }
-    requires at_most_32 { aims.now.workers ≤ 32 }
-    requires known { is_some (text_in wanted.text) ≡ true }
-    ensures { IfOk result (λ sought. IfSome sought.found
-        (IsFoundBy aims.now.workers field.now.source.now wanted)) }
+    requires at_least_one { 0 < ground.now.workers }
+    requires at_most_32 { ground.now.workers ≤ 32 }
+    requires known { is_some (text_in ground.now.wanted.now.text) ≡ true }
+    ensures { IfOk result (IsComparedAfter ground.now field.now.source.now tries.old.seed) }
 {
-    let ground = Ground {
-        workers: aims.workers,
-        steps: aims.steps,
-        seeds: aims.seeds,
-        wanted: &wanted,
-    };
-    let compared = Some(wanted.standard);
-    match tries.next(field, &ground, progress)? {
-        Tried::Bad(found) => Ok(tries.ended(Some(found), compared)),
-        Tried::Nothing => Ok(tries.ended(None, compared)),
+    let compared = Some(ground.wanted.standard);
+    match tries.next(field, ground, progress)? {
+        Tried::Bad(found) => Ok(tries.sought(Some(found), compared)),
+        Tried::Nothing => Ok(tries.sought(None, compared)),
         Tried::Ends { .. } => unreachable!(),
     }
 }
 
 impl Tries {
     // What came of them.
-    fn ended(self, found: Option<Found>, compared: Option<Standard>) -> Sought
-        ensures { result.found ≡ found }
+    fn sought(&self, found: Option<Found>, compared: Option<Standard>) -> Sought
+        ensures found { result.found ≡ found }
+        ensures compared { result.compared ≡ compared }
     {
         Sought {
             found,

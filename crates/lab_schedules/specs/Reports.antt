@@ -142,8 +142,10 @@ found_text found = words_text found ++ codes "\n" ++ found.script.items
 abbrev pub limits_text : List ℕ
 limits_text = codes "These are not all schedules, " ++ codes "and this is no race detector.\n"
 
+-- how many seeds there were
 abbrev pub seed_words : ℕ → List ℕ
-seed_words seeds = codes "nothing bad in the schedules of " ++ decimal seeds ++ codes " seeds\n"
+seed_words seeds = if seeds == 1 then codes "nothing bad in the schedule of 1 seed\n"
+    else codes "nothing bad in the schedules of " ++ decimal seeds ++ codes " seeds\n"
 
 -- with what outputs were compared, where that is not what was told or what `run` prints
 abbrev pub compared_text : Option Standard → List ℕ

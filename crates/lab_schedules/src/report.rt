@@ -63,10 +63,13 @@ fn push_nothing(
     Ok(())
 }
 
-// Appends how many seeds were tried.
+// Appends how many seeds there were.
 fn push_seeds(text: &mut Vec<u8>, seeds: u64) -> AllocResult<()>
     ensures { OnOk result (text.new.items ≡ text.old.items ++ seed_words seeds) }
 {
+    if seeds == 1 {
+        return text.extend_from_slice(b"nothing bad in the schedule of 1 seed\n");
+    }
     push_numbered(text, b"nothing bad in the schedules of ", seeds)?;
     text.extend_from_slice(b" seeds\n")
 }

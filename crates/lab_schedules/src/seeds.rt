@@ -1,7 +1,7 @@
 //! The schedules of seeds, up to the first that is bad.
 
 ghost use Rattle.std.specs.Prelude.{◌≡◌, ◌≤◌, IfOk, IfSome};
-ghost use Rattle.lab_schedules.specs.Seeds.{IsOfSeed, LiesAfter};
+ghost use Rattle.lab_schedules.specs.Seeds.{LiesAfter, LiesWithin};
 ghost use Rattle.om_undo.specs.Machines.{at_start};
 
 use crate::block::Block;
@@ -78,7 +78,7 @@ impl Chances {
         progress: &mut P,
     ) -> AllocResult<Option<Schedule>>
         ensures lies_after { IfOk result (λ found. IfSome found (LiesAfter after)) }
-        ensures is_a_seed { IfOk result (λ found. IfSome found (IsOfSeed ground.now)) }
+        ensures lies_within { IfOk result (λ found. IfSome found (LiesWithin ground.now.seeds)) }
     {
         'seeds: for before in after..ground.seeds {
             let seed = before + 1;
