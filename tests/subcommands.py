@@ -97,7 +97,7 @@ HUNT = ["hunt", "--seeds", "20", "--steps", "1000"]
 # error.
 ROWS = [
     ("a source is accepted", ["check"], RACE, "", 0, "a.c: accepted\n", ""),
-    ("a team is smaller than asked for", ["check"], THREE, "", 0, "a.c: accepted\na.c:3:22: note: with --threads 2 this team has at most 2\n", ""),
+    ("a team is smaller than asked for", ["check"], THREE, "", 0, "a.c: accepted\na.c:3:22: note: with --threads 2 this team has at most 2; give omplab and ompback --threads 3\n", ""),
     ("a source is refused", ["check"], STATIC, "", 1, LEFT_OUT, ""),
     ("the steps of a session are kept", ["script"], RACE, LOST, 0, SCRIPT, REFUSED_UNDO),
     ("a cone is listed", ["script", "--cone", "5"], RACE, LOST, 0, CONE, REFUSED_UNDO),
