@@ -47,19 +47,15 @@ drawing_of m seen program steps ts boxes arrows scale front behind bytes same p 
 
 -- what a session that was run over a reader's bytes shows
 pub page_of : (left_before left_after : Option (List ℕ)) (workers : ℕ) (given : Option (List ℕ))
-    (input seen old text : List ℕ) (status : ℕ) (book : Option BookView) (page : outcome.Page)
-    → ReadsAll left_before left_after input → seen ≡ input → old ≡ []
-    → Leaves seen old text workers given status book → IsShown book text page
-    → IsPage left_before left_after workers given page
-page_of left_before left_after workers given input seen old text status book page reads same none leaves shown =
-    record {
-      input = input;
-      reads = reads;
-      text = text;
-      status = status;
-      book = book;
-      leaves =
-          subst (λ l. Leaves l [] text workers given status book) same
-          (subst (λ o. Leaves seen o text workers given status book) none leaves);
-      shown = shown;
-    }
+    (input seen text : List ℕ) (status : ℕ) (book : Option BookView) (page : outcome.Page)
+    → ReadsAll left_before left_after input → seen ≡ input → Leaves seen text workers given status book
+    → IsShown book text page → IsPage left_before left_after workers given page
+page_of left_before left_after workers given input seen text status book page reads same leaves shown = record {
+  input = input;
+  reads = reads;
+  text = text;
+  status = status;
+  book = book;
+  leaves = subst (λ l. Leaves l text workers given status book) same leaves;
+  shown = shown;
+}
