@@ -1,0 +1,4 @@
+mod Tables
+mod Captured
+mod Shares
+mod DeclaredCells

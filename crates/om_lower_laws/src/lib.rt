@@ -1,0 +1,15 @@
+//! Laws of lowered code: a variable that a region shares is the same one outside, and has the cells of its declarator.
+//!
+//! It has laws alone: no program runs them, and no other crate depends on this one. So a further law of code
+//! stands here, where it costs no crate of a program its proof.
+//!
+//! - `specs/ShareLaws` says what the slots of a region's body share with the body round it, and `specs/CellLaws`
+//!   how many cells a declared variable of a source has.
+//! - `proofs/Tables` has what tables by first sight have. `proofs/Captured` goes through the tree: what a region
+//!   takes is among the variables of the body round it. `proofs/Shares` draws the first law from the two.
+//! - `proofs/DeclaredCells` goes through the tree too: the declared variables of a function stand at its places,
+//!   and no two places at one byte.
+//! - A new form of a statement adds a case to `Captured` and to `DeclaredCells`.
+#![tactic(auto)]
+
+pub mod laws;
