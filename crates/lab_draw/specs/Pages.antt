@@ -17,6 +17,7 @@ use Rattle.lab_draw.specs.declared.session.Heard.{Heard}
 use Rattle.lab_draw.specs.declared.outcome.Page as outcome
 use Rattle.lab_draw.specs.declared.outcome.Page.TheVariants.{Drawn, Refused}
 use Rattle.lab_graph.specs.Pictures.{box_of, IsArrow}
+use Rattle.lab_replay.specs.Said.{AreSaid}
 use Rattle.lab_replay.specs.Traces.{transition_of}
 use Rattle.lab_draw.specs.Marks.{boxes_text}
 use Rattle.lab_draw.specs.Places.{first_serial}
@@ -45,9 +46,11 @@ HasElements front program scale picture foot page = page.items
 -- have one. The first entry stands at the left. Of what stands before and behind it nothing is said: there are steps
 -- that were taken out, and undos that were refused.
 pub record IsDrawing (m : MachineView) (bytes : List ℕ) : Type 0 where
-  -- the entries with the footprints of their steps in the replay; their instruction, variable and value are any bytes
+  -- the entries with the footprints of their steps in the replay; their instruction and variable are any bytes
   pub steps : List Traced
   pub traced : map transition_of steps ≡ transitions (rules_for m) m.history.entries
+  -- each says whether its step met a fault; if it did not, and put a number, its value is that number behind a name
+  pub said : AreSaid m m.history.entries steps
   pub arrows : List Arrow
   pub exactly : (x : Arrow) → Contains arrows x ↔ IsArrow steps x
   pub scale : Scale
