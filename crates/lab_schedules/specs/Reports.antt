@@ -69,8 +69,11 @@ fault_words fault worker line = codes "fault F" ++ decimal (fault_number fault) 
 abbrev pub name_words : List ℕ → List ℕ
 name_words name = if length name == 0 then [] else codes " (" ++ name ++ codes ")"
 
+abbrev pub held_by : ℕ → List ℕ
+held_by holder = codes ", held by worker " ++ decimal holder
+
 abbrev pub lock_words : List ℕ → ℕ → List ℕ
-lock_words name holder = codes " for critical" ++ name_words name ++ codes ", held by worker " ++ decimal holder
+lock_words name holder = codes " for critical" ++ name_words name ++ held_by holder
 
 -- what a worker waits for
 abbrev pub awaited_text : Awaited → List ℕ
@@ -80,10 +83,12 @@ awaited_text awaited.Children = codes " for tasks that it made"
 awaited_text (awaited.Worker worker) = codes " for worker " ++ decimal worker
 awaited_text awaited.Group = codes " for tasks of its taskgroup"
 
+abbrev pub waits_in : ℕ → List ℕ
+waits_in line = codes " waits in line " ++ decimal line
+
 -- who waits in which line, and for what
 abbrev pub wait_text : Wait → List ℕ
-wait_text w = codes "; worker " ++ decimal w.worker ++ codes " waits in line " ++ decimal w.line
-    ++ awaited_text w.what
+wait_text w = codes "; worker " ++ decimal w.worker ++ waits_in w.line ++ awaited_text w.what
 
 abbrev pub stuck_text : List Wait → List ℕ
 stuck_text waits = codes "stuck: no worker has a move" ++ joined wait_text waits
@@ -125,10 +130,12 @@ length_text blocks = codes "shortened to " ++ decimal (length blocks) ++ blocks_
 abbrev pub threads_text : ℕ → List ℕ
 threads_text workers = codes "run the script with --threads " ++ decimal workers ++ codes "\n"
 
+abbrev pub some_unconfirmed : ℕ → List ℕ
+some_unconfirmed count = codes "bad schedules that the debugger did not confirm: " ++ decimal count ++ codes "\n"
+
 -- how many bad schedules the debugger did not find bad, where there were some
 abbrev pub unconfirmed_text : ℕ → List ℕ
-unconfirmed_text count = if count == 0 then []
-    else codes "bad schedules that the debugger did not confirm: " ++ decimal count ++ codes "\n"
+unconfirmed_text count = if count == 0 then [] else some_unconfirmed count
 
 -- what was found, in words
 abbrev pub words_text : Found → List ℕ
@@ -143,18 +150,30 @@ abbrev pub limits_text : List ℕ
 limits_text = codes "These are not all schedules, " ++ codes "and this is no race detector.\n"
 
 -- how many seeds there were
+abbrev pub several_seeds : ℕ → List ℕ
+several_seeds seeds = codes "nothing bad in the schedules of " ++ decimal seeds ++ codes " seeds\n"
+
 abbrev pub seed_words : ℕ → List ℕ
-seed_words seeds = if seeds == 1 then codes "nothing bad in the schedule of 1 seed\n"
-    else codes "nothing bad in the schedules of " ++ decimal seeds ++ codes " seeds\n"
+seed_words seeds = if seeds == 1 then codes "nothing bad in the schedule of 1 seed\n" else several_seeds seeds
+
+abbrev pub of_seed : ℕ → List ℕ
+of_seed seed = codes "that of seed " ++ decimal seed
+
+-- they were compared with what a seed's schedule printed
+abbrev pub compared_with : ℕ → List ℕ
+compared_with seed = codes "`run` came to no end: outputs were compared with " ++ of_seed seed ++ codes "\n"
+
+-- there was nothing to compare with
+abbrev pub not_compared : List ℕ
+not_compared = codes "`run` came to no end, and no seed did: "
+    ++ codes "no output was compared; give more --steps\n"
 
 -- with what outputs were compared, where that is not what was told or what `run` prints
 abbrev pub compared_text : Option Standard → List ℕ
 compared_text (Some standard.Told) = []
 compared_text (Some standard.Run) = []
-compared_text (Some (standard.Seed seed)) = codes "`run` came to no end: outputs were compared with "
-    ++ codes "that of seed " ++ decimal seed ++ codes "\n"
-compared_text None = codes "`run` came to no end, and no seed did: "
-    ++ codes "no output was compared; give more --steps\n"
+compared_text (Some (standard.Seed seed)) = compared_with seed
+compared_text None = not_compared
 
 abbrev pub nothing_text : ℕ → Option Standard → ℕ → List ℕ
 nothing_text seeds compared unconfirmed =

@@ -2,7 +2,7 @@
 
 ghost use Rattle.std.specs.Prelude.{◌≡◌, ◌++◌, IfOk, OnOk, length};
 ghost use Rattle.om_shell_commands.specs.Lists.{joined};
-ghost use Rattle.lab_schedules.specs.Reports.{awaited_text, bad_text, before_wanted, block_words, blocks_word, byte_text, compared_text, fault_words, first_text, found_text, length_text, limits_text, lock_words, name_words, nothing_text, outputs_text, quoted, report_text, seed_text, seed_words, start_words, steps_words, stuck_text, threads_text, told_text, unconfirmed_text, wait_text, words_text};
+ghost use Rattle.lab_schedules.specs.Reports.{awaited_text, bad_text, before_wanted, block_words, blocks_word, byte_text, compared_text, compared_with, fault_words, first_text, found_text, length_text, limits_text, lock_words, name_words, not_compared, nothing_text, outputs_text, quoted, report_text, seed_text, seed_words, several_seeds, some_unconfirmed, start_words, steps_words, stuck_text, threads_text, told_text, unconfirmed_text, wait_text, words_text};
 
 use crate::block::Block;
 use crate::hunted::{Found, Hunted};
@@ -68,10 +68,18 @@ fn push_seeds(text: &mut Vec<u8>, seeds: u64) -> AllocResult<()>
     ensures { OnOk result (text.new.items ≡ text.old.items ++ seed_words seeds) }
 {
     if seeds == 1 {
-        return text.extend_from_slice(b"nothing bad in the schedule of 1 seed\n");
+        text.extend_from_slice(b"nothing bad in the schedule of 1 seed\n")
+    } else {
+        push_several_seeds(text, seeds)
     }
+}
+
+fn push_several_seeds(text: &mut Vec<u8>, seeds: u64) -> AllocResult<()>
+    ensures { OnOk result (text.new.items ≡ text.old.items ++ several_seeds seeds) }
+{
     push_numbered(text, b"nothing bad in the schedules of ", seeds)?;
-    text.extend_from_slice(b" seeds\n")
+    text.extend_from_slice(b" seeds\n")?;
+    Ok(())
 }
 
 // Appends with what outputs were compared, where that is not what was told or what `run` prints.
@@ -81,16 +89,26 @@ fn push_compared(text: &mut Vec<u8>, compared: Option<Standard>) -> AllocResult<
     match compared {
         Some(Standard::Told) => Ok(()),
         Some(Standard::Run) => Ok(()),
-        Some(Standard::Seed(seed)) => {
-            text.extend_from_slice(b"`run` came to no end: outputs were compared with ")?;
-            push_numbered(text, b"that of seed ", seed)?;
-            text.extend_from_slice(b"\n")
-        }
-        None => {
-            text.extend_from_slice(b"`run` came to no end, and no seed did: ")?;
-            text.extend_from_slice(b"no output was compared; give more --steps\n")
-        }
+        Some(Standard::Seed(seed)) => push_compared_with(text, seed),
+        None => push_not_compared(text),
     }
+}
+
+fn push_compared_with(text: &mut Vec<u8>, seed: u64) -> AllocResult<()>
+    ensures { OnOk result (text.new.items ≡ text.old.items ++ compared_with seed) }
+{
+    text.extend_from_slice(b"`run` came to no end: outputs were compared with ")?;
+    push_numbered(text, b"that of seed ", seed)?;
+    text.extend_from_slice(b"\n")?;
+    Ok(())
+}
+
+fn push_not_compared(text: &mut Vec<u8>) -> AllocResult<()>
+    ensures { OnOk result (text.new.items ≡ text.old.items ++ not_compared) }
+{
+    text.extend_from_slice(b"`run` came to no end, and no seed did: ")?;
+    text.extend_from_slice(b"no output was compared; give more --steps\n")?;
+    Ok(())
 }
 
 // Appends how many bad schedules the debugger did not find bad, where there were some.
@@ -98,11 +116,19 @@ fn push_unconfirmed(text: &mut Vec<u8>, unconfirmed: u64) -> AllocResult<()>
     ensures { OnOk result (text.new.items ≡ text.old.items ++ unconfirmed_text unconfirmed) }
 {
     if unconfirmed == 0 {
-        return Ok(());
+        Ok(())
+    } else {
+        push_some_unconfirmed(text, unconfirmed)
     }
-    text.extend_from_slice(b"bad schedules that the debugger did not confirm: ")?;
-    push_numbered(text, b"", unconfirmed)?;
-    text.extend_from_slice(b"\n")
+}
+
+fn push_some_unconfirmed(text: &mut Vec<u8>, unconfirmed: u64) -> AllocResult<()>
+    ensures { OnOk result (text.new.items ≡ text.old.items ++ some_unconfirmed unconfirmed) }
+{
+    let words = b"bad schedules that the debugger did not confirm: ";
+    push_numbered(text, words, unconfirmed)?;
+    text.extend_from_slice(b"\n")?;
+    Ok(())
 }
 
 fn push_limits(text: &mut Vec<u8>) -> AllocResult<()>
@@ -186,7 +212,8 @@ fn push_stuck(text: &mut Vec<u8>, waits: &[Wait]) -> AllocResult<()>
     ensures { OnOk result (text.new.items ≡ text.old.items ++ stuck_text waits.now) }
 {
     text.extend_from_slice(b"stuck: no worker has a move")?;
-    push_waits(text, waits)
+    push_waits(text, waits)?;
+    Ok(())
 }
 
 fn push_waits(text: &mut Vec<u8>, waits: &[Wait]) -> AllocResult<()>
@@ -203,7 +230,8 @@ fn push_wait(text: &mut Vec<u8>, wait: &Wait) -> AllocResult<()>
 {
     push_numbered(text, b"; worker ", wait.worker)?;
     push_numbered(text, b" waits in line ", wait.line)?;
-    push_awaited(text, &wait.what)
+    push_awaited(text, &wait.what)?;
+    Ok(())
 }
 
 fn push_awaited(text: &mut Vec<u8>, what: &Awaited) -> AllocResult<()>
@@ -223,7 +251,8 @@ fn push_lock(text: &mut Vec<u8>, name: &[u8], holder: u8) -> AllocResult<()>
 {
     text.extend_from_slice(b" for critical")?;
     push_name(text, name)?;
-    push_numbered(text, b", held by worker ", holder)
+    push_numbered(text, b", held by worker ", holder)?;
+    Ok(())
 }
 
 // Appends the name of a critical region; nothing for the unnamed one.
@@ -305,19 +334,19 @@ fn push_length(text: &mut Vec<u8>, blocks: &[Block]) -> AllocResult<()>
     ensures { OnOk result (text.new.items ≡ text.old.items ++ length_text blocks.now) }
 {
     push_numbered(text, b"shortened to ", blocks.len())?;
-    text.extend_from_slice(blocks_word(blocks.len()))?;
+    push_blocks_word(text, blocks.len())?;
     push_blocks(text, blocks)?;
     text.extend_from_slice(b"then `run`\n")
 }
 
-// The word after a number of blocks.
-fn blocks_word(count: usize) -> &'static [u8]
-    ensures { result.now ≡ blocks_word count }
+// Appends the word after a number of blocks.
+fn push_blocks_word(text: &mut Vec<u8>, count: usize) -> AllocResult<()>
+    ensures { OnOk result (text.new.items ≡ text.old.items ++ blocks_word count) }
 {
     if count == 1 {
-        b" block: "
+        text.extend_from_slice(b" block: ")
     } else {
-        b" blocks: "
+        text.extend_from_slice(b" blocks: ")
     }
 }
 
