@@ -1,0 +1,39 @@
+//! Cases and checks: a program that compares each step of sessions with what its row said first.
+//!
+//! Each section of the standard input is a session of two workers: a C source, and below a line
+//! `%%` the commands `step`, `start`, `undo` and `roll`. The gate compares what the program writes
+//! with `stdout`.
+//!
+//! - At each step `asked` calls `names` and `effect` of om_task and of om_team. What they answer is
+//!   compared with the footprint of the step's entry, and with the reply to the step.
+//! - `beside` has the machine of a session, a second one, and a history: this one alone has a store
+//!   that can be asked.
+//! - At a roll the first machine takes the cone out by `cone` and `take_out`, and the second one by
+//!   `roll`. Their histories are compared.
+//! - `removal` calls `remove` of the store of om_cells.
+#![tactic(auto)]
+
+mod asked;
+mod beside;
+mod compared;
+mod removal;
+mod sections;
+mod taken;
+mod words;
+
+use crate::sections::told;
+use anyhow::Result;
+use om_parser::STACK_SIZE;
+use std::io;
+use std::thread::Builder;
+
+fn main(rt: HostRuntime) -> Result<()> {
+    let alloc = rt.alloc();
+    let input = io::read_to_string(alloc, rt.reader())?;
+    let thread = Builder::new()
+        .stack_size(STACK_SIZE)
+        .spawn(&rt, move || told(alloc, input.as_str()))?;
+    let text = thread.join(&rt)?;
+    print!(rt; "{}", str::from_utf8(text.as_slice()).unwrap_or("no text"))?;
+    Ok(())
+}
