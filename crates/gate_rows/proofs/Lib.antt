@@ -1,1 +1,1 @@
-pub mod Plans
+pub mod Counters

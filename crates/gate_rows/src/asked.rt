@@ -1,12 +1,12 @@
 //! What is asked about a step before it is made: what it names, and what comes of it.
 
-ghost use Rattle.std.specs.Prelude.{◌≡◌, ◌≤◌, ◌^◌};
-ghost use Rattle.om_memory.specs.Plain.{plain_control};
+ghost use Rattle.std.specs.Prelude.{◌≤◌, ◌^◌, OnOk};
 ghost use Rattle.om_memory.specs.Memories.{state_of};
+ghost use Rattle.om_memory.specs.Plain.{plain_control};
 ghost use Rattle.om_team.specs.Counters.{ControlWithin, StateWithin};
-ghost use Rattle.om_task.specs.Rules.{rules_of};
-ghost use Rattle.om_undo_history.specs.Pasts.{IsHeld};
+ghost use Rattle.om_undo.specs.Machines.{state_in};
 
+use crate::held::held_at;
 use om_code::Program;
 use om_code::frame::Fault;
 use om_foot::Access;
@@ -16,11 +16,10 @@ use om_state::{Blocked, Label};
 use om_task::laws::low_counters;
 use om_team_serial::Row;
 use om_undo::Machine;
-use om_undo_history::History;
 use std::alloc::{AllocError, Global};
 
-/// How many steps a session has at most.
-pub(crate) const MOST_STEPS: u64 = 1_000_000;
+// How many steps of a session stand at most.
+const MOST_ENTRIES: usize = 1_000_000;
 
 /// What a step names, by `names` of om_task and of om_team.
 #[derive(Drop)]
@@ -47,6 +46,13 @@ pub(crate) struct SaidOf {
     pub(crate) of_team: Option<Said>,
 }
 
+/// What is asked about a step.
+#[derive(Drop)]
+pub(crate) struct Asked {
+    pub(crate) named: Named,
+    pub(crate) said: SaidOf,
+}
+
 // What a worker's choice names that has this control.
 fn named_by(
     alloc: Global,
@@ -63,18 +69,14 @@ fn named_by(
     Ok(Named { all, of_team })
 }
 
-/// What a label's step names at a machine. The errors are out of memory, and a history of more
-/// steps than a session has.
-pub(crate) fn names_at(alloc: Global, machine: &Machine, label: &Label) -> AllocResult<Named> {
-    low_counters();
-    let entries = machine.history(alloc)?;
-    if entries.len() as u64 > MOST_STEPS {
-        return Err(AllocError);
-    }
-    let program = machine.program();
+// What a label's step names at a machine.
+fn named_at(alloc: Global, machine: &Machine, label: &Label) -> AllocResult<Named>
+    requires { StateWithin (2 ^ 63) (state_in machine.now) }
+{
+    let (program, workers) = (machine.program(), machine.workers());
     match machine.control(label.worker) {
-        Some(control) => named_by(alloc, program, machine.workers(), control, label),
-        None => named_by(alloc, program, machine.workers(), &Control::Idle, label),
+        Some(control) => named_by(alloc, program, workers, control, label),
+        None => named_by(alloc, program, workers, &Control::Idle, label),
     }
 }
 
@@ -88,19 +90,19 @@ fn said_by(row: &Row) -> Said {
     }
 }
 
-// What comes of a label's step at a store, by both calls.
+// What comes of a label's step at a memory.
 fn said_at(
     alloc: Global,
     program: &Program,
     workers: u8,
-    store: &Memory,
+    memory: &Memory,
     label: &Label,
 ) -> AllocResult<SaidOf>
-    requires counters { StateWithin (2 ^ 63) (state_of store.now) }
+    requires counters { StateWithin (2 ^ 63) (state_of memory.now) }
     requires some { 1 ≤ workers }
 {
-    let all = om_task::effect(alloc, program, store, workers, label)?;
-    let of_team = om_team::effect(alloc, program, store, workers, label)?;
+    let all = om_task::effect(alloc, program, memory, workers, label)?;
+    let of_team = om_team::effect(alloc, program, memory, workers, label)?;
     Ok(SaidOf {
         all: said_by(&all),
         of_team: match &of_team {
@@ -110,17 +112,26 @@ fn said_at(
     })
 }
 
-/// What comes of a label's step where a history stands. The only error is out of memory.
-pub(crate) fn effects_at(
-    alloc: Global,
-    program: &Program,
-    workers: u8,
-    history: &History,
-    label: &Label,
-) -> AllocResult<SaidOf>
-    requires held { IsHeld (rules_of program.now workers) history.now }
-    requires some { 1 ≤ workers }
+// No counter is above 2^63 at a machine, since few of its steps stand. The errors are out of memory,
+// and more steps than stand in a session.
+fn has_low_counters(alloc: Global, machine: &Machine) -> AllocResult<()>
+    ensures { OnOk result (StateWithin (2 ^ 63) (state_in machine.now)) }
 {
     low_counters();
-    said_at(alloc, program, workers, history.store(), label)
+    let entries = machine.history(alloc)?;
+    if entries.len() > MOST_ENTRIES {
+        return Err(AllocError);
+    }
+    Ok(())
+}
+
+/// What a label's step names at a machine, and what comes of it. `effect` is given what the machine
+/// holds at the objects that the step names, and nothing else. The errors are out of memory, and
+/// more steps than stand in a session.
+pub(crate) fn asked_at(alloc: Global, machine: &Machine, label: &Label) -> AllocResult<Asked> {
+    has_low_counters(alloc, machine)?;
+    let named = named_at(alloc, machine, label)?;
+    let memory = held_at(alloc, machine, named.all.as_slice())?;
+    let said = said_at(alloc, machine.program(), machine.workers(), &memory, label)?;
+    Ok(Asked { named, said })
 }

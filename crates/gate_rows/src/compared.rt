@@ -1,6 +1,6 @@
 //! Whether what is asked about a step is what the step then does.
 
-use crate::asked::{Named, Said, SaidOf};
+use crate::asked::{Asked, Named, Said};
 use crate::words::{letter, push_accesses};
 use om_foot::Access;
 use om_seq::{AllocResult, Seq};
@@ -36,8 +36,8 @@ fn is_reply(said: Said, reply: StepReply) -> bool {
 }
 
 // What is told of the footprint of an entry, where there is one.
-fn of_footprint(named: &[Access], entry: &Option<Seq<Access>>) -> &'static [u8] {
-    match entry {
+fn of_footprint(named: &[Access], touched: &Option<Seq<Access>>) -> &'static [u8] {
+    match touched {
         None => b": no entry",
         Some(footprint) => {
             if are_same(named, footprint.as_slice()) {
@@ -75,17 +75,17 @@ fn of_team(named: &Named, said: Option<Said>, reply: StepReply) -> &'static [u8]
     }
 }
 
-/// Appends what the calls named, and whether a step with this reply and this entry is what they
-/// say.
+/// Appends what was named, and whether a step with this reply, whose entry touches this, is what was
+/// asked about it.
 pub(crate) fn push_compared(
     text: &mut Vec<u8>,
-    named: &Named,
-    said: SaidOf,
-    entry: &Option<Seq<Access>>,
+    asked: &Asked,
+    touched: &Option<Seq<Access>>,
     reply: StepReply,
 ) -> AllocResult<()> {
-    push_accesses(text, named.all.as_slice())?;
-    text.extend_from_slice(of_footprint(named.all.as_slice(), entry))?;
-    text.extend_from_slice(of_reply(said.all, reply))?;
-    text.extend_from_slice(of_team(named, said.of_team, reply))
+    let named = asked.named.all.as_slice();
+    push_accesses(text, named)?;
+    text.extend_from_slice(of_footprint(named, touched))?;
+    text.extend_from_slice(of_reply(asked.said.all, reply))?;
+    text.extend_from_slice(of_team(&asked.named, asked.said.of_team, reply))
 }

@@ -4,21 +4,22 @@
 //! `%%` the commands `step`, `start`, `undo` and `roll`. The gate compares what the program writes
 //! with `stdout`.
 //!
-//! - At each step `asked` calls `names` and `effect` of om_task and of om_team. What they answer is
-//!   compared with the footprint of the step's entry, and with the reply to the step.
-//! - `beside` has the machine of a session, a second one, and a history: this one alone has a store
-//!   that can be asked.
-//! - At a roll the first machine takes the cone out by `cone` and `take_out`, and the second one by
-//!   `roll`. Their histories are compared.
-//! - `removal` calls `remove` of the store of om_cells.
+//! - `asked` calls `names` and `effect` of om_task and of om_team before each step. `compared` compares
+//!   what they answer with what the step's entry touches, and with the reply to the step.
+//! - `held` makes the memory that `effect` is asked about. It holds what the machine holds at the objects
+//!   that the step names.
+//! - `pair` has two machines of `machine_of_two`. At a roll the first one takes the cone out by `cone` and
+//!   `take_out`, and the second one by `roll`. Their histories are compared.
+//! - `removal` calls `remove` of the store of om_cells. `words` has the words for what a step touches.
 #![tactic(auto)]
 
 mod asked;
-mod beside;
 mod compared;
+mod held;
+mod machine_of_two;
+mod pair;
 mod removal;
 mod sections;
-mod taken;
 mod words;
 
 use crate::sections::told;

@@ -4,15 +4,13 @@
 //! commands, each on a line. What is told is the head, and for each command the answer of a session
 //! with what was compared.
 
-ghost use Rattle.std.specs.Prelude.{◌≡◌, IfSome};
+ghost use Rattle.om_shell_commands.specs.Commands.{HasWorkerBelow};
 
-use crate::beside::Beside;
+use crate::pair::Pair;
 use crate::removal::is_removed_alone;
-use om_frontend::program_of;
 use om_seq::AllocResult;
 use om_shell_commands::{Command, Request, request_of};
 use om_state::{Choice, Label};
-use om_undo::Machine;
 use std::alloc::Global;
 
 /// What is told of all sections, and of the one check that is no session.
@@ -36,45 +34,19 @@ fn add_section(alloc: Global, text: &mut Vec<u8>, section: &str) -> AllocResult<
     text.extend_from_slice(b"== ")?;
     text.extend_from_slice(head.as_bytes())?;
     text.extend_from_slice(b"\n")?;
-    let Some(mut beside) = begun(alloc, source.as_bytes())? else {
+    let Some(mut pair) = Pair::of(alloc, source.as_bytes()) else {
         return text.extend_from_slice(b"WRONG source\n");
     };
     for line in commands.split('\n') {
-        add_answer(alloc, text, &mut beside, line)?;
+        add_answer(alloc, text, &mut pair, line)?;
     }
     Ok(())
 }
 
-// The machine at the start of a source; `None` where it is refused, or there is no memory.
-fn machine_of(alloc: Global, source: &[u8]) -> Option<Machine>
-    ensures two { IfSome result (λ m. m.workers ≡ 2) }
-    ensures unmade { IfSome result (λ m. m.history.made ≡ 0) }
-{
-    let program = program_of(alloc, source).ok()?;
-    Machine::new(alloc, program, 2).ok()
-}
-
-// The machines and the history at the start of a source; `None` where it is refused, or there is no
-// memory.
-fn begun(alloc: Global, source: &[u8]) -> AllocResult<Option<Beside>> {
-    let Some(machine) = machine_of(alloc, source) else {
-        return Ok(None);
-    };
-    let Some(second) = machine_of(alloc, source) else {
-        return Ok(None);
-    };
-    Ok(Some(Beside::of(alloc, machine, second)?))
-}
-
 // Adds the answer to a line.
-fn add_answer(
-    alloc: Global,
-    text: &mut Vec<u8>,
-    beside: &mut Beside,
-    line: &str,
-) -> AllocResult<()> {
+fn add_answer(alloc: Global, text: &mut Vec<u8>, pair: &mut Pair, line: &str) -> AllocResult<()> {
     match request_of(alloc, 2, line.as_bytes())? {
-        Request::Command(command) => add_obeyed(alloc, text, beside, command),
+        Request::Command(command) => add_obeyed(alloc, text, pair, command),
         Request::Nothing => Ok(()),
         Request::Fault(_) => text.extend_from_slice(b"WRONG line\n"),
     }
@@ -84,20 +56,22 @@ fn add_answer(
 fn add_obeyed(
     alloc: Global,
     text: &mut Vec<u8>,
-    beside: &mut Beside,
+    pair: &mut Pair,
     command: Command,
-) -> AllocResult<()> {
+) -> AllocResult<()>
+    requires { HasWorkerBelow 2 command }
+{
     match command {
         Command::Step(worker) => {
             let choice = Choice::Next;
-            beside.step(alloc, &Label { worker, choice }, text)
+            pair.step(alloc, &Label { worker, choice }, text)
         }
         Command::Start { worker, task } => {
             let choice = Choice::Start(task.name());
-            beside.step(alloc, &Label { worker, choice }, text)
+            pair.step(alloc, &Label { worker, choice }, text)
         }
-        Command::Undo(worker) => beside.undo(worker, text),
-        Command::Roll(serial) => beside.roll(alloc, serial, text),
+        Command::Undo(worker) => pair.undo(worker, text),
+        Command::Roll(serial) => pair.roll(alloc, serial, text),
         _ => text.extend_from_slice(b"WRONG command\n"),
     }
 }
