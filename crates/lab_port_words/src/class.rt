@@ -1,0 +1,261 @@
+//! The classes of pieces.
+
+ghost use Rattle.std.specs.Prelude.{◌≡◌};
+ghost use Rattle.lab_port_words.specs.Classes.{is_gap, is_word};
+
+/// What a piece is to the rules.
+#[derive(Clone, Copy)]
+pub enum Class {
+    /// White space in a line, or a comment.
+    Gap,
+    /// A line feed.
+    LineEnd,
+    /// A punctuator.
+    Sign(Sign),
+    /// A word of a type.
+    Type(TypeWord),
+    /// A word of how a name is stored.
+    Storage(Storage),
+    /// A name of the library.
+    Library(Library),
+    /// A word of a directive.
+    Clause(Clause),
+    /// A word of a `#` line.
+    Hash(Hash),
+    /// Another word.
+    Word(Word),
+    /// A number.
+    Number(Form),
+    /// A text, and whether it is a format that the subset has in another spelling.
+    Text(bool),
+    /// A character, and its number if it is one character or one escape (C17 6.4.4.4).
+    Character(Option<u8>),
+}
+
+/// Punctuators that rules look at.
+#[derive(Clone, Copy)]
+pub enum Sign {
+    /// `(`
+    Open,
+    /// `)`
+    Close,
+    /// `{`
+    OpenBrace,
+    /// `}`
+    CloseBrace,
+    /// `[`
+    OpenBracket,
+    /// `]`
+    CloseBracket,
+    /// `;`
+    Semicolon,
+    /// `,`
+    Comma,
+    /// `:`
+    Colon,
+    /// `#`
+    Hash,
+    /// `*`
+    Star,
+    /// `-`
+    Minus,
+    /// `<`
+    Less,
+    /// `>`
+    Greater,
+    /// `->`
+    Arrow,
+    /// `=`, `++`, `--` or a compound assignment: what changes a value.
+    Changes,
+    /// Any other.
+    Other,
+}
+
+/// Words of types (C17 6.7.2, 7.19, 7.20).
+#[derive(Clone, Copy)]
+pub enum TypeWord {
+    /// `int`
+    Int,
+    /// `signed`, and names of the type that `int` is here.
+    Signed,
+    /// `long`, and names of wider signed types.
+    Long,
+    /// `char`, signed or not.
+    Char,
+    /// `short`, and names of narrower types.
+    Short,
+    /// `unsigned`, and names of unsigned types of 32 bits or more.
+    Unsigned,
+    /// `void`
+    Void,
+    /// `float` or `double`
+    Floating,
+}
+
+/// Words of storage and qualifiers (C17 6.7.1, 6.7.3, 6.7.4).
+#[derive(Clone, Copy)]
+pub enum Storage {
+    /// `const`, `register`, `inline`, `restrict` and their spellings in gcc.
+    Plain,
+    /// `auto`
+    Auto,
+    /// `volatile`
+    Volatile,
+    /// `static`
+    Static,
+    /// `extern`
+    Extern,
+    /// `__attribute__`
+    Attribute,
+}
+
+/// Names of the library (C17 7, OpenMP API 5.2 section 18, POSIX).
+#[derive(Clone, Copy)]
+pub enum Library {
+    /// `abort`
+    Abort,
+    /// `assert`
+    Assert,
+    /// `exit`
+    Exit,
+    /// A routine that sets how teams are made.
+    Setting,
+    /// A call that waits, empties a buffer or seeds random numbers.
+    Wait,
+    /// A routine that asks for what is 0 here.
+    Zero,
+    /// `omp_in_parallel`
+    InParallel,
+    /// `fprintf`
+    PrintTo,
+    /// `stderr`
+    ErrorStream,
+    /// `stdout`
+    OutputStream,
+    /// `puts`
+    Puts,
+    /// `true`, `EXIT_FAILURE`
+    One,
+    /// `false`, `EXIT_SUCCESS`
+    Nought,
+    /// `INT_MAX`
+    Largest,
+    /// `INT_MIN`
+    Least,
+    /// `NDEBUG`, and a name that a rule brings in
+    NoDebug,
+    /// A function that has no form here.
+    Lacking(Lack),
+}
+
+/// Why a word has no form.
+#[derive(Clone, Copy)]
+pub enum Lack {
+    /// Floating point.
+    Floating,
+    /// `->`
+    Pointer,
+    /// `goto`, `asm`, `_Generic`
+    Statement,
+    /// `union`
+    Union,
+    /// `malloc` and its like.
+    Memory,
+    /// `scanf` and its like.
+    Input,
+    /// `rand` and its like.
+    Random,
+}
+
+/// Words of directives (OpenMP API 5.2).
+#[derive(Clone, Copy)]
+pub enum Clause {
+    /// `schedule`
+    Schedule,
+    /// `guided`
+    Guided,
+    /// `runtime`
+    Runtime,
+    /// `untied`, `mergeable`, and memory orders of `atomic` that the subset has not.
+    Bare,
+    /// `proc_bind`, `priority`, `hint`, `affinity`, `allocate`
+    Called,
+    /// `collapse`
+    Collapse,
+    /// `reduction`
+    Reduction,
+}
+
+/// Words of `#` lines (C17 6.10).
+#[derive(Clone, Copy)]
+pub enum Hash {
+    /// `include`
+    Include,
+    /// `define`
+    Define,
+    /// `pragma`
+    Pragma,
+    /// `omp`, which is also a part of a header's name.
+    Omp,
+    /// `stdio`
+    Stdio,
+    /// `stdlib`
+    Stdlib,
+}
+
+/// Other words.
+#[derive(Clone, Copy)]
+pub enum Word {
+    /// `return`
+    Return,
+    /// `else` or `do`
+    Branch,
+    /// `main`
+    Main,
+    /// `argc` or `argv`
+    Argument,
+    /// A word that has no form.
+    Lacking(Lack),
+    /// Any other.
+    Other,
+}
+
+/// Forms of numbers (C17 6.4.4).
+#[derive(Clone, Copy)]
+pub enum Form {
+    /// The number 1.
+    One,
+    /// Another number without a suffix.
+    Plain,
+    /// A whole number with a suffix for `long`.
+    Long,
+    /// A whole number with a suffix for `unsigned`.
+    Unsigned,
+    /// A floating number.
+    Floating,
+}
+
+/// Whether a piece is white space, a comment or a line feed.
+pub fn is_gap(class: Class) -> bool
+    ensures { result ≡ is_gap class }
+{
+    match class {
+        Class::Gap | Class::LineEnd => true,
+        _ => false,
+    }
+}
+
+/// Whether a piece is a word.
+pub fn is_word(class: Class) -> bool
+    ensures { result ≡ is_word class }
+{
+    match class {
+        Class::Type(_)
+        | Class::Storage(_)
+        | Class::Library(_)
+        | Class::Clause(_)
+        | Class::Hash(_)
+        | Class::Word(_) => true,
+        _ => false,
+    }
+}
