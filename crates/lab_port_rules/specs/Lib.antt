@@ -1,0 +1,7 @@
+pub mod Contexts
+pub mod Ahead
+pub mod Facts
+pub mod Codes
+pub mod Libraries
+pub mod Directives
+pub mod Marks
