@@ -1,3 +1,0 @@
-pub mod Lengths
-pub mod Lines
-pub mod Steps
