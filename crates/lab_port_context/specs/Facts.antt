@@ -1,16 +1,16 @@
 -- What the whole source has.
-use Rattle.std.specs.Prelude.{ℕ, Bool, true, false, ◌==◌, ◌||◌, ◌&&◌, not, if◌then◌else◌, nat_lt, Option, None, Some, is_none, List, [], ◌∷◌, take}
+use Rattle.std.specs.Prelude.{Bool, true, false, ◌==◌, ◌||◌, ◌&&◌, not, nat_lt, is_none, List, [], ◌∷◌, take}
 use Rattle.lab_port_words.specs.declared.class.Class.{Class}
 use Rattle.lab_port_words.specs.declared.class.Class.TheVariants as classes
 use Rattle.lab_port_words.specs.declared.class.Word.TheVariants as words
 use Rattle.lab_port_words.specs.declared.class.Library.TheVariants as names
-use Rattle.lab_port_rules.specs.declared.ahead.Call.TheVariants as calls
-use Rattle.lab_port_rules.specs.declared.context.Line.{Line}
-use Rattle.lab_port_rules.specs.declared.context.Line.TheVariants as lines
-use Rattle.lab_port_rules.specs.declared.context.Context.{Context}
-use Rattle.lab_port_rules.specs.declared.facts.Facts.{Facts}
-use Rattle.lab_port_rules.specs.Contexts.{is_code, is_abort, context_behind, at_first}
-use Rattle.lab_port_rules.specs.Ahead.{is_library, is_star, statement_size}
+use Rattle.lab_port_context.specs.declared.ahead.Call.TheVariants as calls
+use Rattle.lab_port_context.specs.declared.context.Line.{Line}
+use Rattle.lab_port_context.specs.declared.context.Line.TheVariants as lines
+use Rattle.lab_port_context.specs.declared.context.Context.{Context}
+use Rattle.lab_port_context.specs.declared.facts.Facts.{Facts}
+use Rattle.lab_port_context.specs.Contexts.{is_code, is_abort, context_behind, at_first}
+use Rattle.lab_port_context.specs.Ahead.{is_library, is_open, is_star, nth_class, statement_size}
 
 -- as many pieces as a rule looks at after its first one
 abbrev pub in_sight : List Class → List Class
@@ -22,19 +22,36 @@ is_of_macros lines.Define = true
 is_of_macros lines.Other = true
 is_of_macros _ = false
 
--- a word of a type or a star, after which a name is declared
-abbrev pub declares : Class → Bool
-declares (classes.Type word) = true
-declares c = is_star c
+abbrev pub is_type : Class → Bool
+is_type (classes.Type word) = true
+is_type _ = false
 
--- a name of the library is one of the program's own here: a macro has it, or it is declared and is no prototype
+-- a name is declared after a word of a type, or after a star behind one
+abbrev pub is_declared : Context → Bool
+is_declared context = is_type context.last || (is_star context.last && is_type context.before)
+
+-- at file scope, before a `(`: the head of a function, if no `;` follows
+abbrev pub may_be_head : Context → List Class → Bool
+may_be_head context rest = context.braces == 0 && is_open (nth_class 0 rest)
+
+-- a name of the library that the program declares here, and by no prototype
+abbrev pub is_own_declaration : Context → List Class → Bool
+is_own_declaration context rest =
+    (is_declared context || may_be_head context rest) && is_none (statement_size calls.Any rest)
+
+-- a name of the library is one of the program's own here: a macro has it, or it is declared
 abbrev pub is_own_name : Context → List Class → Bool
 is_own_name context rest =
     is_of_macros context.line
-    || ((is_code context.line && declares context.last) && is_none (statement_size calls.Any rest))
+    || (is_code context.line && is_own_declaration context rest)
+
+-- a name that a rule brings in
+abbrev pub is_brought_in : Class → Bool
+is_brought_in (classes.Library names.BroughtIn) = true
+is_brought_in _ = false
 
 abbrev pub is_own_at : Context → Class → List Class → Bool
-is_own_at context class rest = is_library class && is_own_name context rest
+is_own_at context class rest = is_brought_in class || (is_library class && is_own_name context rest)
 
 -- the program uses what `main` is given
 abbrev pub uses_argument_at : Context → Class → Bool

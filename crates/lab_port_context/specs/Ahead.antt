@@ -1,24 +1,38 @@
 -- What follows a piece.
-use Rattle.std.specs.Prelude.{ℕ, Bool, true, false, ◌+◌, ◌-◌, ◌==◌, ◌||◌, ◌&&◌, not, if◌then◌else◌, Option, None, Some, List, [], ◌∷◌, drop}
+use Rattle.std.specs.Prelude.{ℕ, Bool, true, false, suc, take, ◌+◌, ◌-◌, ◌==◌, ◌||◌, ◌&&◌, not, if◌then◌else◌, Option, None, Some, List, [], ◌∷◌, drop}
 use Rattle.lab_port_words.specs.declared.class.Class.{Class}
 use Rattle.lab_port_words.specs.declared.class.Class.TheVariants as classes
 use Rattle.lab_port_words.specs.declared.class.Sign.{Sign}
 use Rattle.lab_port_words.specs.declared.class.Sign.TheVariants as signs
 use Rattle.lab_port_words.specs.declared.class.Word.TheVariants as words
-use Rattle.lab_port_words.specs.declared.class.Storage.TheVariants as storages
 use Rattle.lab_port_words.specs.declared.class.TypeWord.{TypeWord}
 use Rattle.lab_port_words.specs.declared.class.TypeWord.TheVariants as types
 use Rattle.lab_port_words.specs.Classes.{is_gap, is_word}
-use Rattle.lab_port_rules.specs.declared.ahead.Call.{Call}
-use Rattle.lab_port_rules.specs.declared.ahead.Call.TheVariants as calls
-use Rattle.lab_port_rules.specs.declared.ahead.Paren.{Paren}
-use Rattle.lab_port_rules.specs.declared.ahead.Paren.TheVariants.{Fails, Ends, Goes}
-use Rattle.lab_port_rules.specs.declared.ahead.Cast.{Cast}
-use Rattle.lab_port_rules.specs.declared.ahead.Cast.TheVariants as casts
-use Rattle.lab_port_rules.specs.declared.ahead.CastStep.{CastStep}
-use Rattle.lab_port_rules.specs.declared.ahead.CastStep.TheVariants.{Breaks, Finds, Takes}
-use Rattle.lab_port_rules.specs.declared.ahead.CastEnd.{CastEnd}
-use Rattle.lab_port_rules.specs.Contexts.{deeper, is_floating_type}
+use Rattle.lab_port_context.specs.declared.ahead.Call.{Call}
+use Rattle.lab_port_context.specs.declared.ahead.Call.TheVariants as calls
+use Rattle.lab_port_context.specs.declared.ahead.Paren.{Paren}
+use Rattle.lab_port_context.specs.declared.ahead.Paren.TheVariants.{Fails, Ends, Goes}
+use Rattle.lab_port_context.specs.declared.ahead.Cast.{Cast}
+use Rattle.lab_port_context.specs.declared.ahead.Cast.TheVariants as casts
+use Rattle.lab_port_context.specs.declared.ahead.CastStep.{CastStep}
+use Rattle.lab_port_context.specs.declared.ahead.CastStep.TheVariants.{Breaks, Finds, Takes}
+use Rattle.lab_port_context.specs.declared.ahead.CastEnd.{CastEnd}
+use Rattle.lab_port_context.specs.Contexts.{deeper, is_floating_type}
+
+-- white space or a comment with a line feed in it, or a line feed
+abbrev pub ends_line : Class → Bool
+ends_line classes.Join = true
+ends_line classes.LineEnd = true
+ends_line _ = false
+
+-- how many pieces stand before the next line feed
+abbrev pub line_size : List Class → ℕ
+line_size [] = 0
+line_size (c ∷ rest) = if ends_line c then 0 else suc (line_size rest)
+
+-- the pieces before the next line feed
+abbrev pub of_line : List Class → List Class
+of_line rest = take (line_size rest) rest
 
 -- the n-th token that follows, the next one for 0; `LineEnd` where there is none
 abbrev pub nth_class : ℕ → List Class → Class
@@ -58,10 +72,6 @@ abbrev pub is_any : Call → Bool
 is_any calls.Any = true
 is_any _ = false
 
-abbrev pub is_clause : Call → Bool
-is_clause calls.Clause = true
-is_clause _ = false
-
 -- where so many parentheses are open, this one more is
 abbrev pub paren_opens : Call → ℕ → Paren
 paren_opens call depth = if depth == 0 || is_any call then Goes (deeper depth) else Fails
@@ -76,13 +86,11 @@ paren_changes call depth = if depth == 0 || not (is_any call) then Fails else Go
 abbrev pub paren_passes : ℕ → Paren
 paren_passes depth = if depth == 0 then Fails else Goes depth
 
-abbrev pub paren_at_line_end : Call → ℕ → Paren
-paren_at_line_end call depth = if is_clause call then Fails else Goes depth
-
 abbrev pub paren_at_sign : Call → ℕ → Sign → Paren
 paren_at_sign call depth signs.Open = paren_opens call depth
 paren_at_sign call depth signs.Close = paren_closes depth
 paren_at_sign call depth signs.Changes = paren_changes call depth
+paren_at_sign call depth signs.Steps = paren_changes call depth
 paren_at_sign call depth signs.Semicolon = Fails
 paren_at_sign call depth signs.OpenBrace = Fails
 paren_at_sign call depth signs.CloseBrace = Fails
@@ -92,7 +100,8 @@ paren_at_sign call depth _ = paren_passes depth
 -- what a piece is to a list in parentheses, of which so many are open
 abbrev pub paren_step : Call → ℕ → Class → Paren
 paren_step call depth classes.Gap = Goes depth
-paren_step call depth classes.LineEnd = paren_at_line_end call depth
+paren_step call depth classes.Join = Goes depth
+paren_step call depth classes.LineEnd = Goes depth
 paren_step call depth (classes.Sign sign) = paren_at_sign call depth sign
 paren_step call depth _ = paren_passes depth
 
@@ -175,6 +184,7 @@ abbrev pub cast_with : Cast → TypeWord → Cast
 cast_with cast types.Char = casts.Narrow
 cast_with cast types.Short = casts.Narrow
 cast_with cast types.Unsigned = casts.Narrow
+cast_with cast types.Truth = casts.Narrow
 cast_with cast types.Long = cast_wider cast
 cast_with cast _ = cast_same cast
 
@@ -191,6 +201,9 @@ cast_close _ = Finds
 -- what a piece is to a cast that is this so far
 abbrev pub cast_step : Cast → Class → CastStep
 cast_step cast classes.Gap = Takes cast
+cast_step cast classes.Join = Takes cast
+cast_step cast classes.LineEnd = Takes cast
+cast_step cast (classes.Storage word) = Takes cast
 cast_step cast (classes.Type word) = cast_word cast word
 cast_step cast (classes.Sign signs.Close) = cast_close cast
 cast_step cast _ = Breaks

@@ -1,16 +1,16 @@
 //! What the whole source has.
 
 ghost use Rattle.std.specs.Prelude.{◌≡◌, ◌≤◌, length, take};
-ghost use Rattle.lab_port_rules.specs.Facts.{in_sight, is_of_macros, declares, is_own_name, is_own_at, uses_argument_at, is_assert, is_in_body, facts_with, no_facts, facts_of};
+ghost use Rattle.lab_port_context.specs.Facts.{in_sight, is_of_macros, is_type, is_declared, may_be_head, is_own_declaration, is_own_name, is_brought_in, is_own_at, uses_argument_at, is_assert, is_in_body, facts_with, no_facts, facts_of};
 
-use crate::ahead::{Call, is_library, is_star, statement_size};
+use crate::ahead::{Call, is_library, is_open, is_star, nth_class, statement_size};
 use crate::context::{Context, Line, at_first, context_behind, is_abort, is_code};
 use lab_port_words::{Class, Library, Word};
 
 /// What the whole source has.
 #[derive(Clone, Copy)]
 pub struct Facts {
-    /// Whether the program has some name of the library itself.
+    /// Whether the program has some name of the library, or one that a rule brings in, itself.
     pub has_own: bool,
     /// Whether the program uses what `main` is given.
     pub uses_arguments: bool,
@@ -21,7 +21,7 @@ pub struct Facts {
 }
 
 /// The facts of a source, by the classes of its pieces.
-pub(crate) fn facts_of(all: &[Class]) -> Facts
+pub fn facts_of(all: &[Class]) -> Facts
     ensures { result ≡ facts_of all.now }
 {
     let mut facts = no_facts();
@@ -58,7 +58,7 @@ fn facts_with(facts: Facts, context: Context, class: Class, rest: &[Class]) -> F
 }
 
 /// The pieces that a rule looks at: 1,024 after its first one.
-pub(crate) fn in_sight(rest: &[Class]) -> &[Class]
+pub fn in_sight(rest: &[Class]) -> &[Class]
     ensures pieces { result.now ≡ in_sight rest.now }
     ensures inside { length result.now ≤ length rest.now }
 {
@@ -87,14 +87,36 @@ fn is_of_macros(line: Line) -> bool
     }
 }
 
-// Whether a name is declared after it.
-fn declares(class: Class) -> bool
-    ensures { result ≡ declares class }
+/// Whether it is a word of a type.
+pub fn is_type(class: Class) -> bool
+    ensures { result ≡ is_type class }
 {
     match class {
         Class::Type(_) => true,
-        _ => is_star(class),
+        _ => false,
     }
+}
+
+// Whether a name is declared there: after a word of a type, or after a star behind one.
+fn is_declared(context: Context) -> bool
+    ensures { result ≡ is_declared context }
+{
+    is_type(context.last) || (is_star(context.last) && is_type(context.before))
+}
+
+// Whether the head of a function stands there, if no `;` follows.
+fn may_be_head(context: Context, rest: &[Class]) -> bool
+    ensures { result ≡ may_be_head context rest.now }
+{
+    context.braces == 0 && is_open(nth_class(0, rest))
+}
+
+// Whether a name of the library here is declared by the program, and by no prototype.
+fn is_own_declaration(context: Context, rest: &[Class]) -> bool
+    ensures { result ≡ is_own_declaration context rest.now }
+{
+    let declared = is_declared(context) || may_be_head(context, rest);
+    declared && statement_size(Call::Any, rest).is_none()
 }
 
 // Whether a name of the library here is one of the program's own.
@@ -104,17 +126,27 @@ fn is_own_name(context: Context, rest: &[Class]) -> bool
     if is_of_macros(context.line) {
         return true;
     }
-    is_code(context.line) && declares(context.last) && statement_size(Call::Any, rest).is_none()
+    is_code(context.line) && is_own_declaration(context, rest)
 }
 
 fn is_own_at(context: Context, class: Class, rest: &[Class]) -> bool
     ensures { result ≡ is_own_at context class rest.now }
 {
-    is_library(class) && is_own_name(context, rest)
+    is_brought_in(class) || (is_library(class) && is_own_name(context, rest))
+}
+
+// Whether it is a name that a rule brings in.
+fn is_brought_in(class: Class) -> bool
+    ensures { result ≡ is_brought_in class }
+{
+    match class {
+        Class::Library(Library::BroughtIn) => true,
+        _ => false,
+    }
 }
 
 /// Whether it is the name `assert`.
-pub(crate) fn is_assert(class: Class) -> bool
+pub fn is_assert(class: Class) -> bool
     ensures { result ≡ is_assert class }
 {
     match class {

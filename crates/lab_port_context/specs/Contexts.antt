@@ -1,5 +1,5 @@
 -- What stands before a piece.
-use Rattle.std.specs.Prelude.{ℕ, Bool, true, false, ◌+◌, ◌-◌, ◌==◌, ◌||◌, ◌&&◌, not, if◌then◌else◌, nat_lt, Option, None, Some, List, [], ◌∷◌}
+use Rattle.std.specs.Prelude.{ℕ, Bool, true, false, ◌+◌, ◌-◌, ◌==◌, ◌||◌, ◌&&◌, not, if◌then◌else◌, nat_lt}
 use Rattle.lab_port_words.specs.declared.class.Class.{Class}
 use Rattle.lab_port_words.specs.declared.class.Class.TheVariants as classes
 use Rattle.lab_port_words.specs.declared.class.Sign.TheVariants as signs
@@ -7,10 +7,10 @@ use Rattle.lab_port_words.specs.declared.class.Hash.TheVariants as hashes
 use Rattle.lab_port_words.specs.declared.class.Word.TheVariants as words
 use Rattle.lab_port_words.specs.declared.class.TypeWord.TheVariants as types
 use Rattle.lab_port_words.specs.declared.class.Library.TheVariants as names
-use Rattle.lab_port_words.specs.Classes.{is_gap, is_word}
-use Rattle.lab_port_rules.specs.declared.context.Line.{Line}
-use Rattle.lab_port_rules.specs.declared.context.Line.TheVariants as lines
-use Rattle.lab_port_rules.specs.declared.context.Context.{Context}
+use Rattle.lab_port_words.specs.Classes.{is_word}
+use Rattle.lab_port_context.specs.declared.context.Line.{Line}
+use Rattle.lab_port_context.specs.declared.context.Line.TheVariants as lines
+use Rattle.lab_port_context.specs.declared.context.Context.{Context}
 
 -- C17 6.10: a `#` that is the first token of its line begins a `#` line, and the word after it says which
 abbrev pub line_behind_hash : Class → Line
@@ -158,5 +158,6 @@ behind_token context class =
 -- after a piece
 abbrev pub context_behind : Context → Class → Context
 context_behind context classes.Gap = context
+context_behind context classes.Join = context
 context_behind context classes.LineEnd = behind_line context
 context_behind context class = behind_token context class

@@ -1,7 +1,7 @@
 //! What stands before a piece.
 
 ghost use Rattle.std.specs.Prelude.{◌≡◌, ◌-◌};
-ghost use Rattle.lab_port_rules.specs.Contexts.{line_behind_hash, line_behind_pragma, line_behind_first, line_behind, is_code, deeper, braces_behind, parens_behind, is_whole_type, is_floating_type, is_main, ends_external, is_abort, is_stdlib, main_behind, behind_code, behind_hash, behind_line, behind_token, context_behind, at_first};
+ghost use Rattle.lab_port_context.specs.Contexts.{line_behind_hash, line_behind_pragma, line_behind_first, line_behind, is_code, deeper, braces_behind, parens_behind, is_whole_type, is_floating_type, is_main, ends_external, is_abort, is_stdlib, main_behind, behind_code, behind_hash, behind_line, behind_token, context_behind, at_first};
 
 use lab_port_words::{Class, Hash, Library, Sign, TypeWord, Word, is_word};
 
@@ -52,7 +52,7 @@ pub struct Context {
 }
 
 /// The context at the beginning of a source.
-pub(crate) fn at_first() -> Context
+pub fn at_first() -> Context
     ensures { result ≡ at_first }
 {
     Context {
@@ -69,11 +69,11 @@ pub(crate) fn at_first() -> Context
 }
 
 /// The context after a piece.
-pub(crate) fn context_behind(context: Context, class: Class) -> Context
+pub fn context_behind(context: Context, class: Class) -> Context
     ensures { result ≡ context_behind context class }
 {
     match class {
-        Class::Gap => context,
+        Class::Gap | Class::Join => context,
         Class::LineEnd => behind_line(context),
         _ => behind_token(context, class),
     }
@@ -183,7 +183,7 @@ fn line_behind_pragma(class: Class) -> Line
 }
 
 /// Whether the tokens of a line are tokens of C, and of no `#` line.
-pub(crate) fn is_code(line: Line) -> bool
+pub fn is_code(line: Line) -> bool
     ensures { result ≡ is_code line }
 {
     match line {
@@ -193,7 +193,7 @@ pub(crate) fn is_code(line: Line) -> bool
 }
 
 /// One bracket more; more than 1,000,000 are not counted.
-pub(crate) fn deeper(depth: usize) -> usize
+pub fn deeper(depth: usize) -> usize
     ensures { result ≡ deeper depth }
 {
     if depth < 1_000_000 { depth + 1 } else { depth }
@@ -239,7 +239,7 @@ fn is_whole_type(class: Class) -> bool
 }
 
 /// Whether it is a word of a floating type.
-pub(crate) fn is_floating_type(class: Class) -> bool
+pub fn is_floating_type(class: Class) -> bool
     ensures { result ≡ is_floating_type class }
 {
     match class {
@@ -258,7 +258,7 @@ fn is_main(class: Class) -> bool
 }
 
 /// Whether it is the name `abort`.
-pub(crate) fn is_abort(class: Class) -> bool
+pub fn is_abort(class: Class) -> bool
     ensures { result ≡ is_abort class }
 {
     match class {
@@ -268,7 +268,7 @@ pub(crate) fn is_abort(class: Class) -> bool
 }
 
 /// Whether it is the name of the header that declares `abort`.
-pub(crate) fn is_stdlib(class: Class) -> bool
+pub fn is_stdlib(class: Class) -> bool
     ensures { result ≡ is_stdlib class }
 {
     match class {

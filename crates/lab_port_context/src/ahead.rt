@@ -1,7 +1,7 @@
 //! What follows a piece.
 
 ghost use Rattle.std.specs.Prelude.{◌≡◌, ◌≤◌, ◌+◌, length, IfSome};
-ghost use Rattle.lab_port_rules.specs.Ahead.{nth_class, size_to, is_open, is_close, is_semicolon, is_comma, is_star, is_any, is_clause, paren_opens, paren_closes, paren_changes, paren_passes, paren_at_line_end, paren_at_sign, paren_step, closes, call_size, semicolon_behind, statement_size, run_end, is_library, may_precede, name_size, name_ahead, prototype_size, cast_wider, cast_same, cast_with, cast_word, cast_close, cast_step, cast_ahead};
+ghost use Rattle.lab_port_context.specs.Ahead.{ends_line, line_size, of_line, nth_class, size_to, is_open, is_close, is_semicolon, is_comma, is_star, is_any, paren_opens, paren_closes, paren_changes, paren_passes, paren_at_sign, paren_step, closes, call_size, semicolon_behind, statement_size, run_end, is_library, may_precede, name_size, name_ahead, prototype_size, cast_wider, cast_same, cast_with, cast_word, cast_close, cast_step, cast_ahead};
 
 use crate::context::{deeper, is_floating_type};
 use lab_port_words::{Class, Sign, TypeWord, Word, is_gap, is_word};
@@ -13,8 +13,6 @@ pub enum Call {
     Any,
     /// Expressions without an effect, and without parentheses.
     Pure,
-    /// The same, on the line of a directive.
-    Clause,
 }
 
 /// What a piece is to a list in parentheses.
@@ -61,8 +59,39 @@ pub struct CastEnd {
     pub cast: Cast,
 }
 
+// Whether a line feed stands there.
+fn ends_line(class: Class) -> bool
+    ensures { result ≡ ends_line class }
+{
+    match class {
+        Class::Join | Class::LineEnd => true,
+        _ => false,
+    }
+}
+
+// How many pieces stand before the next line feed.
+fn line_size(rest: &[Class]) -> usize
+    ensures size { result ≡ line_size rest.now }
+    ensures inside { result ≤ length rest.now }
+{
+    for (i, class) in rest.iter().enumerate() {
+        if ends_line(*class) {
+            return i;
+        }
+    }
+    rest.len()
+}
+
+/// The pieces before the next line feed.
+pub fn of_line(rest: &[Class]) -> &[Class]
+    ensures pieces { result.now ≡ of_line rest.now }
+    ensures inside { length result.now ≤ length rest.now }
+{
+    &rest[..line_size(rest)]
+}
+
 /// The n-th token that follows, the next one for 0; `LineEnd` where there is none.
-pub(crate) fn nth_class(n: usize, rest: &[Class]) -> Class
+pub fn nth_class(n: usize, rest: &[Class]) -> Class
     ensures { result ≡ nth_class n rest.now }
 {
     let mut left = n;
@@ -79,7 +108,7 @@ pub(crate) fn nth_class(n: usize, rest: &[Class]) -> Class
 }
 
 /// How many pieces there are up to the n-th token and with it.
-pub(crate) fn size_to(n: usize, rest: &[Class]) -> usize
+pub fn size_to(n: usize, rest: &[Class]) -> usize
     ensures size { result ≡ size_to n 0 rest.now }
     ensures inside { result ≤ length rest.now }
 {
@@ -96,7 +125,7 @@ pub(crate) fn size_to(n: usize, rest: &[Class]) -> usize
     rest.len()
 }
 
-pub(crate) fn is_open(class: Class) -> bool
+pub fn is_open(class: Class) -> bool
     ensures { result ≡ is_open class }
 {
     match class {
@@ -105,7 +134,7 @@ pub(crate) fn is_open(class: Class) -> bool
     }
 }
 
-pub(crate) fn is_close(class: Class) -> bool
+pub fn is_close(class: Class) -> bool
     ensures { result ≡ is_close class }
 {
     match class {
@@ -114,7 +143,7 @@ pub(crate) fn is_close(class: Class) -> bool
     }
 }
 
-pub(crate) fn is_semicolon(class: Class) -> bool
+pub fn is_semicolon(class: Class) -> bool
     ensures { result ≡ is_semicolon class }
 {
     match class {
@@ -123,7 +152,7 @@ pub(crate) fn is_semicolon(class: Class) -> bool
     }
 }
 
-pub(crate) fn is_comma(class: Class) -> bool
+pub fn is_comma(class: Class) -> bool
     ensures { result ≡ is_comma class }
 {
     match class {
@@ -132,7 +161,7 @@ pub(crate) fn is_comma(class: Class) -> bool
     }
 }
 
-pub(crate) fn is_star(class: Class) -> bool
+pub fn is_star(class: Class) -> bool
     ensures { result ≡ is_star class }
 {
     match class {
@@ -146,15 +175,6 @@ fn is_any(call: Call) -> bool
 {
     match call {
         Call::Any => true,
-        _ => false,
-    }
-}
-
-fn is_clause(call: Call) -> bool
-    ensures { result ≡ is_clause call }
-{
-    match call {
-        Call::Clause => true,
         _ => false,
     }
 }
@@ -203,24 +223,12 @@ fn paren_passes(depth: usize) -> Paren
     }
 }
 
-// The end of a line.
-fn paren_at_line_end(call: Call, depth: usize) -> Paren
-    ensures { result ≡ paren_at_line_end call depth }
-{
-    if is_clause(call) {
-        Paren::Fails
-    } else {
-        Paren::Goes(depth)
-    }
-}
-
 // What a piece is to a list in parentheses, of which so many are open.
 fn paren_step(call: Call, depth: usize, class: Class) -> Paren
     ensures { result ≡ paren_step call depth class }
 {
     match class {
-        Class::Gap => Paren::Goes(depth),
-        Class::LineEnd => paren_at_line_end(call, depth),
+        Class::Gap | Class::Join | Class::LineEnd => Paren::Goes(depth),
         Class::Sign(sign) => paren_at_sign(call, depth, sign),
         _ => paren_passes(depth),
     }
@@ -232,14 +240,14 @@ fn paren_at_sign(call: Call, depth: usize, sign: Sign) -> Paren
     match sign {
         Sign::Open => paren_opens(call, depth),
         Sign::Close => paren_closes(depth),
-        Sign::Changes => paren_changes(call, depth),
+        Sign::Changes | Sign::Steps => paren_changes(call, depth),
         Sign::Semicolon | Sign::OpenBrace | Sign::CloseBrace | Sign::Hash => Paren::Fails,
         _ => paren_passes(depth),
     }
 }
 
 /// How many pieces the list in parentheses has that follows, if one does.
-pub(crate) fn call_size(call: Call, rest: &[Class]) -> Option<usize>
+pub fn call_size(call: Call, rest: &[Class]) -> Option<usize>
     ensures size { result ≡ call_size call rest.now }
     ensures inside { IfSome result (λ size. size ≤ length rest.now) }
 {
@@ -263,7 +271,7 @@ fn semicolon_behind(size: usize, rest: &[Class]) -> bool
 }
 
 /// The size of the list in parentheses that follows, where a `;` stands after it.
-pub(crate) fn statement_size(call: Call, rest: &[Class]) -> Option<usize>
+pub fn statement_size(call: Call, rest: &[Class]) -> Option<usize>
     ensures size { result ≡ statement_size call rest.now }
     ensures inside { IfSome result (λ size. size ≤ length rest.now) }
 {
@@ -276,7 +284,7 @@ pub(crate) fn statement_size(call: Call, rest: &[Class]) -> Option<usize>
 }
 
 /// The first token that follows the words here, or a word of a floating type among them.
-pub(crate) fn run_end(rest: &[Class]) -> Class
+pub fn run_end(rest: &[Class]) -> Class
     ensures { result ≡ run_end rest.now }
 {
     for class in rest {
@@ -287,7 +295,7 @@ pub(crate) fn run_end(rest: &[Class]) -> Class
     Class::LineEnd
 }
 
-pub(crate) fn is_library(class: Class) -> bool
+pub fn is_library(class: Class) -> bool
     ensures { result ≡ is_library class }
 {
     match class {
@@ -324,7 +332,7 @@ fn name_size(rest: &[Class]) -> Option<usize>
 }
 
 /// The first name of the library that follows; `LineEnd` where there is none.
-pub(crate) fn name_ahead(rest: &[Class]) -> Class
+pub fn name_ahead(rest: &[Class]) -> Class
     ensures { result ≡ name_ahead rest.now }
 {
     for class in rest {
@@ -336,7 +344,7 @@ pub(crate) fn name_ahead(rest: &[Class]) -> Class
 }
 
 /// How many pieces follow up to the `;` of a prototype of a function of the library, and with it.
-pub(crate) fn prototype_size(rest: &[Class]) -> Option<usize>
+pub fn prototype_size(rest: &[Class]) -> Option<usize>
     ensures size { result ≡ prototype_size rest.now }
     ensures inside { IfSome result (λ size. size ≤ length rest.now) }
 {
@@ -351,7 +359,8 @@ fn cast_with(cast: Cast, word: TypeWord) -> Cast
     ensures { result ≡ cast_with cast word }
 {
     match word {
-        TypeWord::Char | TypeWord::Short | TypeWord::Unsigned => Cast::Narrow,
+        TypeWord::Char | TypeWord::Short => Cast::Narrow,
+        TypeWord::Unsigned | TypeWord::Truth => Cast::Narrow,
         TypeWord::Long => cast_wider(cast),
         _ => cast_same(cast),
     }
@@ -400,7 +409,8 @@ fn cast_step(cast: Cast, class: Class) -> CastStep
     ensures { result ≡ cast_step cast class }
 {
     match class {
-        Class::Gap => CastStep::Takes(cast),
+        Class::Gap | Class::Join | Class::LineEnd => CastStep::Takes(cast),
+        Class::Storage(_) => CastStep::Takes(cast),
         Class::Type(word) => cast_word(cast, word),
         Class::Sign(Sign::Close) => cast_close(cast),
         _ => CastStep::Breaks,
@@ -408,7 +418,7 @@ fn cast_step(cast: Cast, class: Class) -> CastStep
 }
 
 /// The end of a cast whose `(` stands before, if it is one to a type of whole numbers or to `void`.
-pub(crate) fn cast_end(rest: &[Class]) -> Option<CastEnd>
+pub fn cast_end(rest: &[Class]) -> Option<CastEnd>
     ensures end { result ≡ cast_ahead rest.now }
     ensures inside { IfSome result (λ end. end.size ≤ length rest.now) }
 {
