@@ -9,7 +9,7 @@ fn main(rt: HostRuntime) -> io::Result<()> {
     let input = io::read_to_string(alloc, rt.reader())?;
     let source = input.as_bytes();
     let ported = port(alloc, source)?;
-    let list = listing(alloc, "my.c", source, &ported)?;
+    let list = listing(alloc, "my.c", source, &ported.changes, &ported.refusals)?;
     let mut writer = io::writer(&rt);
     writer.write_all(&ported.text)?;
     writer.write_all(b"====\n")?;

@@ -1,31 +1,30 @@
--- The line of a place, where an earlier one is known.
-use Rattle.std.proofs.Common.{◌≡◌, ℕ, ◌+◌, ◌-◌, ◌≤◌, List, ◌==◌, cond, take, drop, length, sym, ap, ◌∙◌, arith, length-drop, take_all, take-add}
+-- Where a place stands, where an earlier one is known.
+use Rattle.std.proofs.Common.{◌≡◌, ℕ, ◌+◌, ◌-◌, ◌≤◌, List, [], ◌∷◌, ◌++◌, ◌==◌, cond, if◌then◌else◌, take, drop, length, refl, sym, ap, ◌∙◌, arith, length-drop, take_all, take-add}
+use Rattle.std.proofs.lemmas.List.{length-take-le, length-take}
 use Rattle.std.proofs.lemmas.List.Sums.{sum_by-append, sum_by-take-le, count_by-le-length}
-use Rattle.lab_port.specs.Listings.{line_feeds, line_of}
+use Rattle.lab_port.specs.declared.place.Seen.{Seen}
+use Rattle.lab_port.specs.Written.{line_feeds}
+use Rattle.lab_port.specs.Places.{line_of, front_behind, front_of}
 
 -- what a slice from a place on has
-slice_from : (source : List ℕ) (at : ℕ) → take (length source - at) (drop at source) ≡ drop at source
+pub slice_from : (source : List ℕ) (at : ℕ) → take (length source - at) (drop at source) ≡ drop at source
 slice_from source at =
     take_all (length source - at) (drop at source) (let h = length-drop at source in omega (arith, h))
 
--- the line feeds before a place, and those from there up to a later one
-feeds_to : (source : List ℕ) (from to : ℕ) → from ≤ to
-    → line_feeds (take from source) + line_feeds (take (to - from) (drop from source)) ≡ line_feeds (take to source)
-feeds_to source from to below =
-    let same : from + (to - from) ≡ to = omega arith in
-    sym (sum_by-append (λ byte. cond (byte == 10) 1 0) (take from source) (take (to - from) (drop from source)))
-    ∙ ap line_feeds (sym (take-add from (to - from) source))
-    ∙ ap (λ k. line_feeds (take k source)) same
+-- what stands before a later place
+taken_to : (source : List ℕ) (from to : ℕ) → from ≤ to
+    → take to source ≡ take from source ++ take (to - from) (drop from source)
+taken_to source from to below =
+    let same : to ≡ from + (to - from) = omega arith in
+    ap (λ k. take k source) same ∙ take-add from (to - from) source
 
--- the line of a later place, by what the code counts
-pub line_to : (source : List ℕ) (from to line more : ℕ) → from ≤ to
+-- the line of a later place
+pub line_on : (source : List ℕ) (from to line : ℕ) → from ≤ to
     → line ≡ line_of source from
-    → more ≡ line_feeds (take (to - from) (take (length source - from) (drop from source)))
-    → line + more ≡ line_of source to
-line_to source from to line more below here counted =
-    let all = feeds_to source from to below in
-    let tail = counted ∙ ap (λ l. line_feeds (take (to - from) l)) (slice_from source from) in
-    omega (arith, all, tail, here)
+    → line + line_feeds (take (to - from) (drop from source)) ≡ line_of source to
+line_on source from to line below here =
+    let all = sum_by-append (λ byte. cond (byte == 10) 1 0) (take from source) (take (to - from) (drop from source)) in
+    omega (arith, all, here, ap line_feeds (taken_to source from to below))
 
 -- there are no more line feeds than bytes
 pub line_inside : (source : List ℕ) (at : ℕ) → line_of source at ≤ length source + 1
@@ -33,3 +32,26 @@ line_inside source at =
     let some = sum_by-take-le (λ byte. cond (byte == 10) 1 0) source at in
     let all = count_by-le-length (λ byte. byte == 10) source in
     omega (arith, some, all)
+
+front_append : (size : ℕ) (xs ys : List ℕ) → front_behind size (xs ++ ys) ≡ front_behind (front_behind size xs) ys
+front_append size [] ys = refl
+front_append size (b ∷ rest) ys = front_append (if b == 10 then 0 else size + 1) rest ys
+
+-- what stands before a later place on its line
+pub front_on : (source : List ℕ) (from to front : ℕ) → from ≤ to
+    → front ≡ front_of source from
+    → front_behind front (take (to - from) (drop from source)) ≡ front_of source to
+front_on source from to front below here =
+    ap (λ k. front_behind k (take (to - from) (drop from source))) here
+    ∙ sym (front_append 0 (take from source) (take (to - from) (drop from source)))
+    ∙ ap (front_behind 0) (sym (taken_to source from to below))
+
+front_size : (size : ℕ) (bytes : List ℕ) → front_behind size bytes ≤ size + length bytes
+front_size size [] = omega arith
+front_size size (b ∷ rest) = grind (arith, front_size 0 rest, front_size (size + 1) rest)
+
+pub front_inside : (source : List ℕ) (at : ℕ) → front_of source at ≤ at
+front_inside source at =
+    let size = front_size 0 (take at source) in
+    let few = length-take at source in
+    grind (arith, size, few)

@@ -5,27 +5,7 @@ use Rattle.lab_port_tokens.specs.declared.piece.Piece.{Piece}
 use Rattle.lab_port_rules.specs.declared.mark.Mark.{Mark}
 use Rattle.lab_port.specs.declared.ported.Change.{Change}
 use Rattle.lab_port.specs.declared.ported.Refusal.{Refusal}
-use Rattle.lab_port.specs.Written.{written_at, owed_behind, text_from}
 use Rattle.lab_port.specs.Portings.{changes_at, changes_from, refusals_at, refusals_from}
-
-pub text_on : (pieces : List Piece) (marks : List Mark) (i owed left : ℕ) (piece : Piece) (mark : Mark)
-    (out more total : List ℕ)
-    → drop i pieces ≡ piece ∷ drop (i + 1) pieces
-    → drop i marks ≡ mark ∷ drop (i + 1) marks
-    → more ≡ out ++ written_at owed mark piece.text (drop (i + 1) pieces)
-    → left ≡ owed_behind owed mark piece.text (drop (i + 1) pieces)
-    → out ++ text_from owed (drop i pieces) (drop i marks) ≡ total
-    → more ++ text_from left (drop (i + 1) pieces) (drop (i + 1) marks) ≡ total
-text_on pieces marks i owed left piece mark out more total ps ms wrote owes read =
-    let rest = drop (i + 1) pieces in
-    let after = drop (i + 1) marks in
-    ap (λ l. l ++ text_from left rest after) wrote
-    ∙ ap (λ k. (out ++ written_at owed mark piece.text rest) ++ text_from k rest after) owes
-    ∙ append_assoc out (written_at owed mark piece.text rest)
-    (text_from (owed_behind owed mark piece.text rest) rest after)
-    ∙ ap (λ l. out ++ text_from owed l (mark ∷ after)) (sym ps)
-    ∙ ap (λ l. out ++ text_from owed (drop i pieces) l) (sym ms)
-    ∙ read
 
 pub changes_on : (pieces : List Piece) (marks : List Mark) (i : ℕ) (piece : Piece) (mark : Mark)
     (done more total : List Change)

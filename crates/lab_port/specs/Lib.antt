@@ -1,4 +1,6 @@
+pub mod Texts
 pub mod Written
+pub mod Places
 pub mod Portings
 pub mod Warnings
 pub mod Names

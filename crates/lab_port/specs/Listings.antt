@@ -3,30 +3,21 @@ use Rattle.std.specs.Prelude.{ℕ, List, [], ◌∷◌, ◌++◌, ◌+◌, ◌==
 use Rattle.lab_port_rules.specs.declared.rule.Rule.{Rule}
 use Rattle.lab_port.specs.declared.ported.Change.{Change}
 use Rattle.lab_port.specs.declared.ported.Refusal.{Refusal}
+use Rattle.lab_port_words.specs.declared.class.Lack.{Lack}
 use Rattle.lab_port.specs.declared.words.Kind.{Kind}
+use Rattle.lab_port.specs.Texts.{flat_byte}
+use Rattle.lab_port.specs.Places.{line_of, front_of, place_in, excerpt}
 use Rattle.lab_port.specs.Warnings.{warning_of}
-use Rattle.lab_port.specs.Names.{name_of, kind_name, warning_words, lack_words}
-
--- how many line feeds stand among some bytes
-abbrev pub line_feeds : List ℕ → ℕ
-line_feeds bytes = count_by (λ byte. byte == 10) bytes
-
--- the line of a byte of a source, from 1
-abbrev pub line_of : List ℕ → ℕ → ℕ
-line_of source at = line_feeds (take at source) + 1
+use Rattle.lab_port.specs.Names.{name_of, kind_name, warning_words, lack_words, lack_help}
 
 -- `FILE:LINE: `
 abbrev pub place_words : List ℕ → ℕ → List ℕ
 place_words file line = file ++ codes ":" ++ decimal line ++ codes ": "
 
--- a line end is a space
-abbrev pub flat_byte : ℕ → ℕ
-flat_byte byte = if byte == 10 || byte == 13 then 32 else byte
-
 -- what stands in place of the old bytes
 abbrev pub becomes : List ℕ → List ℕ
 becomes [] = codes " is left out\n"
-becomes (byte ∷ rest) = codes " is " ++ map flat_byte (byte ∷ rest) ++ codes "\n"
+becomes (byte ∷ rest) = codes " is " ++ (byte ∷ rest) ++ codes "\n"
 
 abbrev pub change_line : List ℕ → ℕ → Change → List ℕ
 change_line file line change =
@@ -44,17 +35,20 @@ abbrev pub change_lines : List ℕ → ℕ → Change → List ℕ
 change_lines file line change =
     change_line file line change ++ warning_by (warning_of change.rule) file line change.rule
 
-abbrev pub refusal_line : List ℕ → ℕ → Refusal → List ℕ
-refusal_line file line refusal =
-    place_words file line ++ codes "error: port: " ++ lack_words refusal.lack ++ codes "\n"
+-- `FILE:LINE:COLUMN: error: port: `, why the token has no form, its line with a caret under it, and what to write
+abbrev pub refusal_lines : List ℕ → List ℕ → ℕ → Lack → List ℕ
+refusal_lines file source at lack =
+    file ++ codes ":" ++ decimal (line_of source at) ++ codes ":" ++ decimal (front_of source at + 1)
+    ++ codes ": error: port: " ++ lack_words lack ++ codes "\n" ++ excerpt source at
+    ++ codes "help: " ++ lack_help lack ++ codes "\n"
 
 abbrev pub changes_part : List ℕ → List ℕ → List Change → List ℕ
 changes_part file source changes =
-    flat_map (λ change. change_lines file (line_of source change.at) change) changes
+    flat_map (λ change. change_lines file (line_of source (place_in source change.at)) change) changes
 
 abbrev pub refusals_part : List ℕ → List ℕ → List Refusal → List ℕ
 refusals_part file source refusals =
-    flat_map (λ refusal. refusal_line file (line_of source refusal.at) refusal) refusals
+    flat_map (λ refusal. refusal_lines file source (place_in source refusal.at) refusal.lack) refusals
 
 -- the lines of the changes, and then those of the tokens without a form
 abbrev pub listing : List ℕ → List ℕ → List Change → List Refusal → List ℕ

@@ -1,5 +1,5 @@
 -- The words of the list of changes.
-use Rattle.std.specs.Prelude.{ℕ, List, [], ◌∷◌, codes}
+use Rattle.std.specs.Prelude.{ℕ, List, [], codes}
 use Rattle.lab_port_words.specs.declared.class.TypeWord.{TypeWord}
 use Rattle.lab_port_words.specs.declared.class.TypeWord.TheVariants as types
 use Rattle.lab_port_words.specs.declared.class.Lack.{Lack}
@@ -11,12 +11,14 @@ use Rattle.lab_port.specs.declared.words.Kind.TheVariants as kinds
 
 abbrev pub type_name : TypeWord → List ℕ
 type_name types.Unsigned = codes "unsigned"
+type_name types.Truth = codes "bool"
 type_name _ = codes "narrow"
 
 -- the name of a rule
 abbrev pub name_of : Rule → List ℕ
 name_of rules.Include = codes "include"
 name_of rules.Storage = codes "storage"
+name_of rules.Attribute = codes "storage"
 name_of rules.Volatile = codes "volatile"
 name_of (rules.Type word) = type_name word
 name_of (rules.TypeAgain word) = type_name word
@@ -58,6 +60,7 @@ abbrev pub type_words : TypeWord → List ℕ
 type_words types.Long = codes "a result that does not fit is the fault F1"
 type_words types.Char = codes "it does not wrap"
 type_words types.Short = codes "it does not wrap"
+type_words types.Truth = codes "a value other than 0 and 1 is kept as it is"
 type_words types.Unsigned = codes "a value above 2147483647 or a negative one differs; a sum that wraps is the fault F1"
 type_words _ = []
 
@@ -69,6 +72,8 @@ warning_words (rules.Type word) = type_words word
 warning_words (rules.TypeAgain word) = type_words word
 warning_words rules.UnsignedSuffix = codes "an operand that is negative or above 2147483647 differs"
 warning_words rules.NarrowCast = codes "the value is not cut to the type"
+warning_words rules.Attribute = codes "what it asks for is not done here"
+warning_words rules.Suffix = codes "a result that does not fit is the fault F1"
 warning_words rules.WideCast = codes "a result that does not fit is the fault F1"
 warning_words rules.Zero = codes "the answer is 0 here"
 warning_words rules.InParallel = codes "in a team of one in a larger team the answer is 0"
@@ -80,12 +85,34 @@ warning_words rules.Dynamic = codes "other threads may make an iteration"
 warning_words rules.Static = codes "other threads may make an iteration"
 warning_words _ = []
 
--- why a token has no form, and what to write
+-- why a token has no form
 abbrev pub lack_words : Lack → List ℕ
-lack_words lacks.Floating = codes "floating point has no form here: write int in smaller units"
-lack_words lacks.Pointer = codes "a pointer has no form here: pass an index of a global array"
-lack_words lacks.Statement = codes "this word has no form here: write it with if and while"
-lack_words lacks.Union = codes "a union has no form here: write one variable for each member"
-lack_words lacks.Memory = codes "the length is not known here: write a global array"
-lack_words lacks.Input = codes "a program has no input: write a #define for each value"
-lack_words lacks.Random = codes "random numbers of the library have no form here: write a function for them"
+lack_words lacks.Floating = codes "floating point has no form here"
+lack_words lacks.Pointer = codes "a pointer has no form here"
+lack_words lacks.Statement = codes "this word has no form here"
+lack_words lacks.Struct = codes "a struct has no form here"
+lack_words lacks.Union = codes "a union has no form here"
+lack_words lacks.Exit = codes "an exit outside of main has no form here"
+lack_words lacks.Lock = codes "a lock has no form here"
+lack_words lacks.Threads = codes "the number of threads is not known here"
+lack_words lacks.Conversion = codes "this conversion has no form here"
+lack_words lacks.Directive = codes "this word has no form here"
+lack_words lacks.Memory = codes "the length is not known here"
+lack_words lacks.Input = codes "a program has no input here"
+lack_words lacks.Random = codes "random numbers of the library have no form here"
+
+-- what to write for it
+abbrev pub lack_help : Lack → List ℕ
+lack_help lacks.Floating = codes "write int in smaller units, or leave the measurement out"
+lack_help lacks.Pointer = codes "pass an index of a global array"
+lack_help lacks.Statement = codes "write it with if and while"
+lack_help lacks.Struct = codes "write one variable or array for each member"
+lack_help lacks.Union = codes "write one variable for each member"
+lack_help lacks.Exit = codes "return to main, and end there"
+lack_help lacks.Lock = codes "write #pragma omp critical (NAME) before what it guards"
+lack_help lacks.Threads = codes "write num_threads(N) at each parallel, and N for the question"
+lack_help lacks.Conversion = codes "print whole numbers by %d, and write one printf for each text"
+lack_help lacks.Directive = codes "docs/PORTING.md says what to write for it"
+lack_help lacks.Memory = codes "write a global array of a fixed length"
+lack_help lacks.Input = codes "write a #define for each value"
+lack_help lacks.Random = codes "write a function for them"

@@ -12,10 +12,13 @@ abbrev pub type_warning : TypeWord → Option Kind
 type_warning types.Long = Some kinds.Fault
 type_warning types.Char = Some kinds.WrongValue
 type_warning types.Short = Some kinds.WrongValue
+type_warning types.Truth = Some kinds.WrongValue
 type_warning types.Unsigned = Some kinds.WrongValue
 type_warning _ = None
 
 abbrev pub warning_of : Rule → Option Kind
+warning_of rules.Attribute = Some kinds.Differs
+warning_of rules.Suffix = Some kinds.Fault
 warning_of rules.Volatile = Some kinds.HidesRaces
 warning_of rules.Wait = Some kinds.HidesRaces
 warning_of (rules.Type word) = type_warning word

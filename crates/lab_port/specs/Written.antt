@@ -1,55 +1,6 @@
--- What a source becomes, by the marks of its pieces.
-use Rattle.std.specs.Prelude.{ℕ, Bool, true, false, List, [], ◌∷◌, ◌++◌, ◌==◌, ◌||◌, ◌-◌, if◌then◌else◌, codes, decimal, length, take}
-use Rattle.lab_port_tokens.specs.declared.piece.Piece.{Piece}
-use Rattle.lab_port_tokens.specs.declared.piece.PieceKind.{PieceKind}
-use Rattle.lab_port_tokens.specs.declared.piece.PieceKind.TheVariants as kinds
-use Rattle.lab_port_words.specs.Texts.{without_suffix, plain_format, line_text}
-use Rattle.lab_port_rules.specs.declared.rule.Rule.{Rule}
-use Rattle.lab_port_rules.specs.declared.rule.Rule.TheVariants as rules
-use Rattle.lab_port_rules.specs.declared.mark.Mark.{Mark}
-use Rattle.lab_port_rules.specs.declared.mark.Mark.TheVariants as marks
-
-abbrev pub is_text : PieceKind → Bool
-is_text kinds.Text = true
-is_text _ = false
-
--- the first text among some pieces
-abbrev pub text_among : List Piece → List ℕ
-text_among [] = []
-text_among (piece ∷ rest) = if is_text piece.kind then piece.text else text_among rest
-
--- the words that a rule writes for any token
-abbrev pub fixed_text : Rule → List ℕ
-fixed_text (rules.Type word) = codes "int"
-fixed_text rules.One = codes "1"
-fixed_text rules.Nought = codes "0"
-fixed_text rules.Largest = codes "2147483647"
-fixed_text rules.Least = codes "(-2147483647 - 1)"
-fixed_text rules.DefineAbort = codes "void abort(void) { while (1/0) ; }"
-fixed_text rules.DefineAssert = codes "void assert(int assert__ok) { if (assert__ok == 0) assert__ok = 1/0; }"
-fixed_text rules.Exit = codes "return"
-fixed_text rules.Zero = codes "0"
-fixed_text rules.InParallel = codes "(omp_get_num_threads() > 1)"
-fixed_text rules.PrintError = codes "printf("
-fixed_text rules.PrintOut = codes "printf("
-fixed_text rules.Main = codes "main(void)"
-fixed_text rules.Dynamic = codes "dynamic"
-fixed_text rules.Static = codes "static"
-fixed_text rules.Plus = codes "+"
-fixed_text _ = []
-
--- a `printf` of a text that ends its line
-abbrev pub printed_text : List ℕ → List ℕ
-printed_text text = codes "printf(" ++ line_text text ++ codes ")"
-
--- what a rule writes for a token with these bytes, and the pieces that it takes
-abbrev pub new_text : Rule → List ℕ → List Piece → List ℕ
-new_text rules.Suffix text taken = without_suffix text
-new_text rules.UnsignedSuffix text taken = without_suffix text
-new_text (rules.Character number) text taken = decimal number
-new_text rules.Format text taken = plain_format false text
-new_text rules.Puts text taken = printed_text (text_among taken)
-new_text rule text taken = fixed_text rule
+-- The text that a source becomes by some changes.
+use Rattle.std.specs.Prelude.{ℕ, Bool, List, [], ◌∷◌, ◌++◌, ◌==◌, ◌||◌, ◌+◌, ◌-◌, ◌≤◌, ◌≡◌, if◌then◌else◌, length, take, drop, count_by}
+use Rattle.lab_port.specs.declared.ported.Change.{Change}
 
 -- white space that stays
 abbrev pub is_white : ℕ → Bool
@@ -65,24 +16,35 @@ blanks_behind owed [] = []
 blanks_behind owed (b ∷ rest) =
     if b == 10 || owed == 0 then blank b ∷ blanks_behind owed rest else blanks_behind (owed - 1) rest
 
--- what stands for a piece of these bytes, before these pieces
-abbrev pub written_at : ℕ → Mark → List ℕ → List Piece → List ℕ
-written_at owed marks.Kept text rest = text
-written_at owed (marks.Lacking lack) text rest = text
-written_at owed marks.Taken text rest = blanks_behind owed text
-written_at owed (marks.Changed rule taken) text rest =
-    new_text rule text (take taken rest) ++ blanks_behind (length (new_text rule text (take taken rest))) text
+-- the bytes of a source from one place up to another
+abbrev pub part : List ℕ → ℕ → ℕ → List ℕ
+part source from to = take (to - from) (drop from source)
 
--- how many columns of the pieces after it the new text takes
-abbrev pub owed_behind : ℕ → Mark → List ℕ → List Piece → ℕ
-owed_behind owed marks.Kept text rest = 0
-owed_behind owed (marks.Lacking lack) text rest = 0
-owed_behind owed marks.Taken text rest = owed - length text
-owed_behind owed (marks.Changed rule taken) text rest = length (new_text rule text (take taken rest)) - length text
+-- the place behind what a change replaces
+abbrev pub end_of : Change → ℕ
+end_of change = change.at + length change.old
 
--- the text of some pieces by their marks; so many columns are still taken by the new text before
-abbrev pub text_from : ℕ → List Piece → List Mark → List ℕ
-text_from owed [] some = []
-text_from owed (piece ∷ rest) [] = []
-text_from owed (piece ∷ rest) (mark ∷ more) =
-    written_at owed mark piece.text rest ++ text_from (owed_behind owed mark piece.text rest) rest more
+-- what stands in place of the old bytes: the new text, and white space up to their end; each line feed of theirs stays
+abbrev pub written_for : Change → List ℕ
+written_for change = change.new ++ blanks_behind (length change.new) change.old
+
+-- a source from a place on, with the changes that follow there: all else is kept byte for byte
+abbrev pub with_changes : List ℕ → ℕ → List Change → List ℕ
+with_changes source from [] = drop from source
+with_changes source from (change ∷ more) =
+    part source from change.at ++ (written_for change ++ with_changes source (end_of change) more)
+
+-- how many line feeds stand among some bytes
+abbrev pub line_feeds : List ℕ → ℕ
+line_feeds bytes = count_by (λ byte. byte == 10) bytes
+
+-- a change from a place of a source on: what it replaces stands there, and what it writes has no line feed
+abbrev pub Stands : List ℕ → ℕ → Change → Type 0
+Stands source from change =
+    (from ≤ change.at) × (end_of change ≤ length source)
+    × (part source change.at (end_of change) ≡ change.old) × (line_feeds change.new ≡ 0)
+
+-- the changes stand in a source from a place on, one behind another
+abbrev pub Stand : List ℕ → ℕ → List Change → Type 0
+Stand source from [] = Unit
+Stand source from (change ∷ more) = Stands source from change × Stand source (end_of change) more

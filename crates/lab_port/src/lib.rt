@@ -4,11 +4,13 @@
 //! token stays on its line. `listing` has a line for each change, each warning and each token without a form.
 //!
 //! - lab_port_tokens cuts the source into pieces, lab_port_words says what each is, and lab_port_rules where
-//!   which rule applies. `written` has what a rule writes, and `ported` joins all.
+//!   which rule applies. `text` has what a rule writes, `written` the text with it, and `ported` joins all.
 #![tactic(auto)]
 
 mod list;
+mod place;
 mod ported;
+mod text;
 mod words;
 mod written;
 

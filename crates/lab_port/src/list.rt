@@ -1,25 +1,35 @@
 //! The list of changes, warnings and tokens without a form, in lines.
 
-ghost use Rattle.std.specs.Prelude.{◌≡◌, ◌++◌, ◌≤◌, length, map, take, Some, IfOk, OnOk};
-ghost use Rattle.lab_port.specs.Listings.{line_feeds, line_of, place_words, flat_byte, becomes, change_line, warning_by, change_lines, refusal_line, changes_part, refusals_part, listing};
+ghost use Rattle.std.specs.Prelude.{◌≡◌, ◌++◌, ◌+◌, ◌<◌, ◌^◌, codes, decimal, map, Some, IfOk, OnOk};
+ghost use Rattle.lab_port.specs.Listings.{place_words, becomes, change_line, warning_by, change_lines, refusal_lines, changes_part, refusals_part, listing};
+ghost use Rattle.lab_port.specs.Texts.{flat_byte};
+ghost use Rattle.lab_port.specs.Places.{IsSeen};
 ghost use Rattle.lab_port.specs.Warnings.{warning_of};
 
-use crate::ported::{Change, Ported, Refusal};
-use crate::words::{Kind, kind_name, lack_words, name_of, warning_of, warning_words};
-use itoa::Buffer;
+use crate::place::{Seen, at_first, place_in, push_excerpt, push_number, seen_at};
+use crate::ported::{Change, Refusal};
+use crate::text::flat_byte;
+use crate::words::{Kind, kind_name, lack_help, lack_words, name_of, warning_of, warning_words};
 use lab_port_rules::Rule;
+use lab_port_words::Lack;
 use om_seq::AllocResult;
 use std::alloc::Global;
 
-/// A line for each change and for each of its warnings, and then one for each token without a form. The only
-/// error is out of memory.
-pub fn listing(alloc: Global, file: &str, source: &[u8], ported: &Ported) -> AllocResult<Vec<u8>>
-    ensures { IfOk result (λ list. list.items
-        ≡ listing file.now source.now ported.now.changes.items ported.now.refusals.items) }
+/// A line for each change and for each of its warnings, and then what `check` would say of each token without a form.
+/// The only error is out of memory.
+pub fn listing(
+    alloc: Global,
+    file: &str,
+    source: &[u8],
+    changes: &[Change],
+    refusals: &[Refusal],
+) -> AllocResult<Vec<u8>>
+    ensures { IfOk result
+        (λ list. list.items ≡ listing file.now source.now changes.now refusals.now) }
 {
     let mut out = Vec::new(alloc);
-    push_changes(&mut out, file, source, ported.changes.as_slice())?;
-    push_refusals(&mut out, file, source, ported.refusals.as_slice())?;
+    push_changes(&mut out, file, source, changes)?;
+    push_refusals(&mut out, file, source, refusals)?;
     Ok(out)
 }
 
@@ -30,7 +40,7 @@ fn push_changes(out: &mut Vec<u8>, file: &str, source: &[u8], changes: &[Change]
 {
     let mut seen = at_first();
     for change in changes {
-        seen = seen_at(seen, source, change.at);
+        seen = seen_at(seen, source, place_in(source, change.at));
         push_change(out, file, seen.line, change)?;
     }
     Ok(())
@@ -48,69 +58,10 @@ fn push_refusals(
 {
     let mut seen = at_first();
     for refusal in refusals {
-        seen = seen_at(seen, source, refusal.at);
-        push_refusal(out, file, seen.line, *refusal)?;
+        seen = seen_at(seen, source, place_in(source, refusal.at));
+        push_refusal(out, file, source, seen, refusal.lack)?;
     }
     Ok(())
-}
-
-// A place of a source, and its line.
-#[derive(Clone, Copy)]
-struct Seen {
-    at: usize,
-    line: usize,
-}
-
-fn at_first() -> Seen
-    ensures at { result.at ≡ 0 }
-    ensures line { result.line ≡ 1 }
-{
-    Seen { at: 0, line: 1 }
-}
-
-// The place there, where another one of the source is known.
-fn seen_at(seen: Seen, source: &[u8], at: usize) -> Seen
-    requires { seen.line ≡ line_of source.now seen.at }
-    ensures at { result.at ≡ at }
-    ensures line { result.line ≡ line_of source.now at }
-{
-    let line = if seen.at <= at && at <= source.len() {
-        line_on(seen, source, at)
-    } else {
-        line_feeds(front_of(source, at)) + 1
-    };
-    Seen { at, line }
-}
-
-// The line of a place, where an earlier one is known.
-fn line_on(seen: Seen, source: &[u8], at: usize) -> usize
-    requires line { seen.line ≡ line_of source.now seen.at }
-    requires order { seen.at ≤ at }
-    requires inside { at ≤ length source.now }
-    ensures { result ≡ line_of source.now at }
-{
-    let tail = &source[seen.at..];
-    let more = line_feeds(&tail[..at - seen.at]);
-    seen.line + more
-}
-
-// How many line feeds stand among some bytes.
-fn line_feeds(bytes: &[u8]) -> usize
-    ensures count { result ≡ line_feeds bytes.now }
-    ensures inside { result ≤ length bytes.now }
-{
-    bytes.iter().filter(|byte| **byte == b'\n').count()
-}
-
-// The bytes before a place, or all where it is no place of the source.
-fn front_of(source: &[u8], at: usize) -> &[u8]
-    ensures { result.now ≡ take at source.now }
-{
-    if at < source.len() {
-        &source[..at]
-    } else {
-        source
-    }
 }
 
 // Appends the line of a change, and that of its warning.
@@ -140,7 +91,7 @@ fn push_becomes(out: &mut Vec<u8>, new: &[u8]) -> AllocResult<()>
         return out.extend_from_slice(b" is left out\n");
     }
     out.extend_from_slice(b" is ")?;
-    push_flat(out, new)?;
+    out.extend_from_slice(new)?;
     out.extend_from_slice(b"\n")
 }
 
@@ -176,14 +127,39 @@ fn push_kind(out: &mut Vec<u8>, file: &str, line: usize, warning: Warning) -> Al
     out.extend_from_slice(b"\n")
 }
 
-// Appends the line of a token without a form.
-fn push_refusal(out: &mut Vec<u8>, file: &str, line: usize, refusal: Refusal) -> AllocResult<()>
-    ensures { OnOk result (out.new.items ≡ out.old.items ++ refusal_line file.now line refusal) }
+// Appends why a token has no form, where, and what to write.
+fn push_refusal(
+    out: &mut Vec<u8>,
+    file: &str,
+    source: &[u8],
+    seen: Seen,
+    lack: Lack,
+) -> AllocResult<()>
+    requires { IsSeen source.now seen }
+    ensures { OnOk result
+        (out.new.items ≡ out.old.items ++ refusal_lines file.now source.now seen.at lack) }
 {
-    push_place(out, file, line)?;
-    out.extend_from_slice(b"error: port: ")?;
-    out.extend_from_slice(lack_words(refusal.lack))?;
+    out.extend_from_slice(file.as_bytes())?;
+    push_column(out, seen)?;
+    out.extend_from_slice(b": error: port: ")?;
+    out.extend_from_slice(lack_words(lack))?;
+    out.extend_from_slice(b"\n")?;
+    push_excerpt(out, source, seen)?;
+    out.extend_from_slice(b"help: ")?;
+    out.extend_from_slice(lack_help(lack))?;
     out.extend_from_slice(b"\n")
+}
+
+// Appends the line and the column of a place.
+fn push_column(out: &mut Vec<u8>, seen: Seen) -> AllocResult<()>
+    requires { seen.front < 2 ^ 63 }
+    ensures { OnOk result (out.new.items
+        ≡ out.old.items ++ codes ":" ++ decimal seen.line ++ codes ":" ++ decimal (seen.front + 1)) }
+{
+    out.extend_from_slice(b":")?;
+    push_number(out, seen.line)?;
+    out.extend_from_slice(b":")?;
+    push_number(out, seen.front + 1)
 }
 
 // Appends `FILE:LINE: `.
@@ -192,8 +168,7 @@ fn push_place(out: &mut Vec<u8>, file: &str, line: usize) -> AllocResult<()>
 {
     out.extend_from_slice(file.as_bytes())?;
     out.extend_from_slice(b":")?;
-    let mut buffer = Buffer::new();
-    out.extend_from_slice(buffer.format(line).as_bytes())?;
+    push_number(out, line)?;
     out.extend_from_slice(b": ")
 }
 
@@ -202,17 +177,7 @@ fn push_flat(out: &mut Vec<u8>, bytes: &[u8]) -> AllocResult<()>
     ensures { OnOk result (out.new.items ≡ out.old.items ++ map flat_byte bytes.now) }
 {
     for byte in bytes {
-        out.push(flat_byte(*byte))?;
+        out.push(flat_byte(byte))?;
     }
     Ok(())
-}
-
-fn flat_byte(byte: u8) -> u8
-    ensures { result ≡ flat_byte byte }
-{
-    if byte == b'\n' || byte == b'\r' {
-        b' '
-    } else {
-        byte
-    }
 }

@@ -4,10 +4,12 @@ ghost use Rattle.std.specs.Prelude.{◌≡◌, ◌++◌, ◌∷◌, [], length, 
 ghost use Rattle.lab_port_tokens.specs.Pieces.{bytes_of};
 ghost use Rattle.lab_port_words.specs.Tables.{classes_of};
 ghost use Rattle.lab_port_rules.specs.Marks.{marks_of};
-ghost use Rattle.lab_port.specs.Written.{new_text};
+ghost use Rattle.lab_port.specs.Texts.{flat_text};
+ghost use Rattle.lab_port.specs.Written.{with_changes, line_feeds, Stand};
 ghost use Rattle.lab_port.specs.Portings.{changes_at, changes_from, refusals_at, refusals_from, ported_text, changes_of, refusals_of};
 
-use crate::written::{push_new, taken_of, text_of};
+use crate::text::{taken_of, text_by};
+use crate::written::text_of;
 use lab_port_rules::{Mark, Rule, marks_of};
 use lab_port_tokens::{Piece, pieces};
 use lab_port_words::{Lack, classes_of};
@@ -23,7 +25,7 @@ pub struct Change {
     pub rule: Rule,
     /// The bytes that are replaced.
     pub old: Seq<u8>,
-    /// What stands for them, with white space after it up to the old end; line feeds of the old bytes stay.
+    /// What is written for them, with no line feed. White space follows up to the old end, with the old line feeds.
     pub new: Seq<u8>,
 }
 
@@ -47,18 +49,25 @@ pub struct Ported {
     pub refusals: Vec<Refusal>,
 }
 
-/// What a source becomes by all rules. The only error is out of memory.
+/// What a source becomes by all rules. All that no change of the list covers is kept byte for byte, and each line
+/// feed stays. The only error is out of memory.
 pub fn port(alloc: Global, source: &[u8]) -> AllocResult<Ported>
-    ensures text { IfOk result (λ ported. ported.text.items ≡ ported_text source.now) }
     ensures changes { IfOk result (λ ported. ported.changes.items ≡ changes_of source.now) }
+    ensures apart { IfOk result (λ ported. Stand source.now 0 ported.changes.items) }
+    ensures text { IfOk result (λ ported. ported.text.items
+        ≡ with_changes source.now 0 ported.changes.items) }
+    ensures lines { IfOk result (λ ported. line_feeds ported.text.items ≡ line_feeds source.now) }
     ensures refusals { IfOk result (λ ported. ported.refusals.items ≡ refusals_of source.now) }
 {
     let pieces = pieces(alloc, source)?;
     let marks = marks_for(alloc, &pieces)?;
+    let changes = changes_of(alloc, &pieces, &marks)?;
+    let refusals = refusals_of(alloc, &pieces, &marks)?;
+    let text = text_of(alloc, source, &changes)?;
     Ok(Ported {
-        text: text_of(alloc, &pieces, &marks)?,
-        changes: changes_of(alloc, &pieces, &marks)?,
-        refusals: refusals_of(alloc, &pieces, &marks)?,
+        text,
+        changes,
+        refusals,
     })
 }
 
@@ -109,13 +118,12 @@ fn change_of(alloc: Global, rule: Rule, piece: &Piece, taken: &[Piece]) -> Alloc
       at = piece.now.at;
       rule = rule;
       old = bytes_of (piece.now ∷ taken.now);
-      new = new_text rule piece.now.text taken.now;
+      new = flat_text rule piece.now.text taken.now;
     }) }
 {
     let mut old = Vec::from_slice(alloc, piece.text.as_slice())?;
     push_bytes(&mut old, taken)?;
-    let mut new = Vec::new(alloc);
-    push_new(&mut new, rule, piece.text.as_slice(), taken)?;
+    let new = text_by(alloc, rule, piece.text.as_slice(), taken)?;
     Ok(Change {
         at: piece.at,
         rule,

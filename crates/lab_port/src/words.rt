@@ -2,7 +2,7 @@
 
 ghost use Rattle.std.specs.Prelude.{◌≡◌};
 ghost use Rattle.lab_port.specs.Warnings.{warning_of, type_warning};
-ghost use Rattle.lab_port.specs.Names.{name_of, type_name, kind_name, warning_words, type_words, lack_words};
+ghost use Rattle.lab_port.specs.Names.{name_of, type_name, kind_name, warning_words, type_words, lack_words, lack_help};
 
 use lab_port_rules::Rule;
 use lab_port_words::{Lack, TypeWord};
@@ -26,7 +26,7 @@ pub(crate) fn name_of(rule: Rule) -> &'static [u8]
 {
     match rule {
         Rule::Include => b"include",
-        Rule::Storage => b"storage",
+        Rule::Storage | Rule::Attribute => b"storage",
         Rule::Volatile => b"volatile",
         Rule::Type(word) | Rule::TypeAgain(word) => type_name(word),
         Rule::Suffix => b"suffix",
@@ -54,6 +54,7 @@ fn type_name(word: TypeWord) -> &'static [u8]
 {
     match word {
         TypeWord::Unsigned => b"unsigned",
+        TypeWord::Truth => b"bool",
         _ => b"narrow",
     }
 }
@@ -66,9 +67,11 @@ pub fn warning_of(rule: Rule) -> Option<Kind>
         Rule::Volatile | Rule::Wait => Some(Kind::HidesRaces),
         Rule::Type(word) | Rule::TypeAgain(word) => type_warning(word),
         Rule::UnsignedSuffix | Rule::NarrowCast => Some(Kind::WrongValue),
-        Rule::WideCast => Some(Kind::Fault),
+        Rule::Suffix | Rule::WideCast => Some(Kind::Fault),
         Rule::Zero | Rule::InParallel => Some(Kind::WrongValue),
-        Rule::Routine | Rule::PrintError | Rule::Format | Rule::Main => Some(Kind::Differs),
+        Rule::Attribute | Rule::Routine | Rule::PrintError | Rule::Format | Rule::Main => Some(
+            Kind::Differs,
+        ),
         Rule::Dynamic | Rule::Static => Some(Kind::Differs),
         _ => None,
     }
@@ -79,7 +82,8 @@ fn type_warning(word: TypeWord) -> Option<Kind>
 {
     match word {
         TypeWord::Long => Some(Kind::Fault),
-        TypeWord::Char | TypeWord::Short | TypeWord::Unsigned => Some(Kind::WrongValue),
+        TypeWord::Char | TypeWord::Short => Some(Kind::WrongValue),
+        TypeWord::Unsigned | TypeWord::Truth => Some(Kind::WrongValue),
         _ => None,
     }
 }
@@ -103,10 +107,11 @@ pub(crate) fn warning_words(rule: Rule) -> &'static [u8]
     match rule {
         Rule::Volatile => b"no read or write is kept or added by it here",
         Rule::Wait => b"no time passes, and the schedule decides",
+        Rule::Attribute => b"what it asks for is not done here",
         Rule::Type(word) | Rule::TypeAgain(word) => type_words(word),
         Rule::UnsignedSuffix => b"an operand that is negative or above 2147483647 differs",
         Rule::NarrowCast => b"the value is not cut to the type",
-        Rule::WideCast => b"a result that does not fit is the fault F1",
+        Rule::Suffix | Rule::WideCast => b"a result that does not fit is the fault F1",
         Rule::Zero => b"the answer is 0 here",
         Rule::InParallel => b"in a team of one in a larger team the answer is 0",
         Rule::Routine => b"one level of teams is active, and its size is not adjusted",
@@ -124,6 +129,7 @@ fn type_words(word: TypeWord) -> &'static [u8]
     match word {
         TypeWord::Long => b"a result that does not fit is the fault F1",
         TypeWord::Char | TypeWord::Short => b"it does not wrap",
+        TypeWord::Truth => b"a value other than 0 and 1 is kept as it is",
         TypeWord::Unsigned => {
             b"a value above 2147483647 or a negative one differs; a sum that wraps is the fault F1"
         }
@@ -131,18 +137,44 @@ fn type_words(word: TypeWord) -> &'static [u8]
     }
 }
 
-/// Why a token has no form, and what to write.
+/// Why a token has no form.
 pub(crate) fn lack_words(lack: Lack) -> &'static [u8]
     ensures { result.now ≡ lack_words lack }
 {
     match lack {
-        Lack::Floating => b"floating point has no form here: write int in smaller units",
-        Lack::Pointer => b"a pointer has no form here: pass an index of a global array",
-        Lack::Statement => b"this word has no form here: write it with if and while",
-        Lack::Union => b"a union has no form here: write one variable for each member",
-        Lack::Memory => b"the length is not known here: write a global array",
-        Lack::Input => b"a program has no input: write a #define for each value",
-        Lack::Random =>
-            b"random numbers of the library have no form here: write a function for them",
+        Lack::Floating => b"floating point has no form here",
+        Lack::Pointer => b"a pointer has no form here",
+        Lack::Statement => b"this word has no form here",
+        Lack::Struct => b"a struct has no form here",
+        Lack::Union => b"a union has no form here",
+        Lack::Exit => b"an exit outside of main has no form here",
+        Lack::Lock => b"a lock has no form here",
+        Lack::Threads => b"the number of threads is not known here",
+        Lack::Conversion => b"this conversion has no form here",
+        Lack::Directive => b"this word has no form here",
+        Lack::Memory => b"the length is not known here",
+        Lack::Input => b"a program has no input here",
+        Lack::Random => b"random numbers of the library have no form here",
+    }
+}
+
+/// What to write for it.
+pub(crate) fn lack_help(lack: Lack) -> &'static [u8]
+    ensures { result.now ≡ lack_help lack }
+{
+    match lack {
+        Lack::Floating => b"write int in smaller units, or leave the measurement out",
+        Lack::Pointer => b"pass an index of a global array",
+        Lack::Statement => b"write it with if and while",
+        Lack::Struct => b"write one variable or array for each member",
+        Lack::Union => b"write one variable for each member",
+        Lack::Exit => b"return to main, and end there",
+        Lack::Lock => b"write #pragma omp critical (NAME) before what it guards",
+        Lack::Threads => b"write num_threads(N) at each parallel, and N for the question",
+        Lack::Conversion => b"print whole numbers by %d, and write one printf for each text",
+        Lack::Directive => b"docs/PORTING.md says what to write for it",
+        Lack::Memory => b"write a global array of a fixed length",
+        Lack::Input => b"write a #define for each value",
+        Lack::Random => b"write a function for them",
     }
 }

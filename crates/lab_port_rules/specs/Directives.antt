@@ -7,21 +7,21 @@ use Rattle.lab_port_words.specs.declared.class.Sign.TheVariants as signs
 use Rattle.lab_port_words.specs.declared.class.Sign.{Sign}
 use Rattle.lab_port_words.specs.declared.class.Hash.TheVariants as hashes
 use Rattle.lab_port_words.specs.declared.class.Storage.TheVariants as storages
+use Rattle.lab_port_words.specs.declared.class.Lack.TheVariants as lacks
 use Rattle.lab_port_words.specs.declared.class.Clause.{Clause}
 use Rattle.lab_port_words.specs.declared.class.Clause.TheVariants as words
-use Rattle.lab_port_words.specs.Classes.{is_gap}
 use Rattle.lab_port_rules.specs.declared.rule.Rule.{Rule}
 use Rattle.lab_port_rules.specs.declared.rule.Rule.TheVariants as rules
 use Rattle.lab_port_rules.specs.declared.mark.Mark.{Mark}
 use Rattle.lab_port_rules.specs.declared.mark.Mark.TheVariants as marks
-use Rattle.lab_port_rules.specs.declared.ahead.Call.TheVariants as calls
-use Rattle.lab_port_rules.specs.declared.context.Context.{Context}
-use Rattle.lab_port_rules.specs.declared.facts.Facts.{Facts}
-use Rattle.lab_port_rules.specs.Contexts.{is_stdlib}
-use Rattle.lab_port_rules.specs.Facts.{is_assert}
-use Rattle.lab_port_rules.specs.Ahead.{nth_class, size_to, is_open, is_close, is_comma, call_size}
+use Rattle.lab_port_context.specs.declared.ahead.Call.TheVariants as calls
+use Rattle.lab_port_context.specs.declared.context.Context.{Context}
+use Rattle.lab_port_context.specs.declared.facts.Facts.{Facts}
+use Rattle.lab_port_context.specs.Contexts.{is_stdlib}
+use Rattle.lab_port_context.specs.Facts.{is_assert}
+use Rattle.lab_port_context.specs.Ahead.{nth_class, size_to, is_open, is_close, is_comma, call_size}
 use Rattle.lab_port_rules.specs.Libraries.{changed_if, changed_by}
-use Rattle.lab_port_rules.specs.Codes.{number_mark}
+use Rattle.lab_port_rules.specs.Codes.{lacking_if}
 
 abbrev pub is_greater : Class → Bool
 is_greater (classes.Sign signs.Greater) = true
@@ -41,10 +41,9 @@ is_header (classes.Hash hashes.Stdio) = true
 is_header (classes.Hash hashes.Omp) = true
 is_header _ = false
 
--- how many pieces of the line there are up to the `>` and with it, besides these
+-- how many pieces there are up to the `>` and with it, besides these
 abbrev pub header_size : ℕ → List Class → Option ℕ
 header_size passed [] = None
-header_size passed (classes.LineEnd ∷ rest) = None
 header_size passed (c ∷ rest) = if is_greater c then Some (passed + 1) else header_size (passed + 1) rest
 
 -- C17 6.10.2: an include of a header that the subset has not
@@ -122,14 +121,14 @@ clause_mark words.Schedule context rest = marks.Kept
 clause_mark words.Guided context rest = changed_if (is_kind context) rules.Dynamic
 clause_mark words.Runtime context rest = changed_if (is_kind context) rules.Static
 clause_mark words.Bare context rest = dropped_clause context (Some 0) rest
-clause_mark words.Called context rest = dropped_clause context (call_size calls.Clause rest) rest
+clause_mark words.Called context rest = dropped_clause context (call_size calls.Pure rest) rest
 clause_mark words.Collapse context rest = collapse_mark context rest
 clause_mark words.Reduction context rest = marks.Kept
+clause_mark words.Lacking context rest = lacking_if (context.parens == 0) lacks.Directive
 
 -- a token of a directive line
 abbrev pub directive_mark : Context → Class → List Class → Mark
 directive_mark context (classes.Clause word) rest = clause_mark word context rest
 directive_mark context (classes.Storage storages.Auto) rest = changed_if (is_kind context) rules.Static
 directive_mark context (classes.Sign signs.Minus) rest = changed_if (is_operator context) rules.Plus
-directive_mark context (classes.Number form) rest = number_mark form
 directive_mark context _ rest = marks.Kept

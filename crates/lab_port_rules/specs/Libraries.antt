@@ -1,10 +1,11 @@
 -- Where the rules of names of the library apply.
-use Rattle.std.specs.Prelude.{ℕ, Bool, true, false, ◌==◌, ◌||◌, ◌&&◌, not, if◌then◌else◌, Option, None, Some, is_some, List, [], ◌∷◌}
+use Rattle.std.specs.Prelude.{ℕ, Bool, true, false, ◌==◌, ◌&&◌, if◌then◌else◌, Option, None, Some, is_some, List}
 use Rattle.lab_port_words.specs.declared.class.Class.{Class}
 use Rattle.lab_port_words.specs.declared.class.Class.TheVariants as classes
 use Rattle.lab_port_words.specs.declared.class.Sign.{Sign}
 use Rattle.lab_port_words.specs.declared.class.Sign.TheVariants as signs
 use Rattle.lab_port_words.specs.declared.class.Lack.{Lack}
+use Rattle.lab_port_words.specs.declared.class.Lack.TheVariants as lacks
 use Rattle.lab_port_words.specs.declared.class.Word.TheVariants as words
 use Rattle.lab_port_words.specs.declared.class.Library.{Library}
 use Rattle.lab_port_words.specs.declared.class.Library.TheVariants as names
@@ -12,10 +13,10 @@ use Rattle.lab_port_rules.specs.declared.rule.Rule.{Rule}
 use Rattle.lab_port_rules.specs.declared.rule.Rule.TheVariants as rules
 use Rattle.lab_port_rules.specs.declared.mark.Mark.{Mark}
 use Rattle.lab_port_rules.specs.declared.mark.Mark.TheVariants as marks
-use Rattle.lab_port_rules.specs.declared.ahead.Call.{Call}
-use Rattle.lab_port_rules.specs.declared.ahead.Call.TheVariants as calls
-use Rattle.lab_port_rules.specs.declared.context.Context.{Context}
-use Rattle.lab_port_rules.specs.Ahead.{nth_class, size_to, is_open, is_close, is_comma, call_size, statement_size}
+use Rattle.lab_port_context.specs.declared.ahead.Call.{Call}
+use Rattle.lab_port_context.specs.declared.ahead.Call.TheVariants as calls
+use Rattle.lab_port_context.specs.declared.context.Context.{Context}
+use Rattle.lab_port_context.specs.Ahead.{nth_class, size_to, is_open, is_close, is_comma, call_size, statement_size}
 
 -- the rule applies where this holds, and takes no further piece
 abbrev pub changed_if : Bool → Rule → Mark
@@ -34,25 +35,28 @@ ends_statement signs.Close = true
 ends_statement signs.Colon = true
 ends_statement _ = false
 
--- a statement or a declaration may begin after it
-abbrev pub begins_statement : Class → Bool
-begins_statement classes.LineEnd = true
-begins_statement (classes.Sign sign) = ends_statement sign
-begins_statement (classes.Word words.Branch) = true
-begins_statement _ = false
+-- a statement or a declaration may begin after it, where no parenthesis is open
+abbrev pub begins_after : Class → Bool
+begins_after classes.LineEnd = true
+begins_after (classes.Sign sign) = ends_statement sign
+begins_after (classes.Word words.Branch) = true
+begins_after _ = false
+
+abbrev pub begins_statement : Context → Bool
+begins_statement context = context.parens == 0 && begins_after context.last
 
 -- a call that is a statement here: its list is replaced with the name, or kept
 abbrev pub whole_statement : Context → Call → List Class → Rule → Mark
 whole_statement context call rest rule =
-    if begins_statement context.last then changed_by (statement_size call rest) rule else marks.Kept
+    if begins_statement context then changed_by (statement_size call rest) rule else marks.Kept
 
 -- the name alone is replaced
 abbrev pub name_of_statement : Context → List Class → Rule → Mark
 name_of_statement context rest rule =
-    changed_if (begins_statement context.last && is_some (statement_size calls.Any rest)) rule
+    changed_if (begins_statement context && is_some (statement_size calls.Any rest)) rule
 
 abbrev pub is_text : Class → Bool
-is_text (classes.Text respelled) = true
+is_text (classes.Text _) = true
 is_text _ = false
 
 -- the rule of an `fprintf`, by its stream
@@ -81,9 +85,10 @@ puts_mark context rest = if puts_text rest then whole_statement context calls.Pu
 abbrev pub lacking_call : Lack → List Class → Mark
 lacking_call lack rest = if is_open (nth_class 0 rest) then marks.Lacking lack else marks.Kept
 
--- `exit` in `main` is `return`; elsewhere it is kept
+-- `exit` in `main` is `return`; elsewhere it has no form
 abbrev pub exit_mark : Context → List Class → Mark
-exit_mark context rest = if context.in_main then name_of_statement context rest rules.Exit else marks.Kept
+exit_mark context rest =
+    if context.in_main then name_of_statement context rest rules.Exit else lacking_call lacks.Exit rest
 
 -- a name of the library
 abbrev pub library_mark : Library → Context → List Class → Mark
@@ -103,4 +108,5 @@ library_mark names.Nought context rest = marks.Changed rules.Nought 0
 library_mark names.Largest context rest = marks.Changed rules.Largest 0
 library_mark names.Least context rest = marks.Changed rules.Least 0
 library_mark names.NoDebug context rest = marks.Kept
+library_mark names.BroughtIn context rest = marks.Kept
 library_mark (names.Lacking lack) context rest = lacking_call lack rest

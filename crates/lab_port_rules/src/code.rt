@@ -1,18 +1,17 @@
 //! Where the rules of declarations, numbers, texts and casts apply.
 
 ghost use Rattle.std.specs.Prelude.{◌≡◌, ◌≤◌, length, IfSome};
-ghost use Rattle.lab_port_rules.specs.Codes.{has_form, is_extern_place, is_bracket, is_char, begins_external, prototype_rule, word_mark, storage_mark, whole_type_mark, type_mark, number_mark, precedes_operand, is_operand_first, cast_rule, cast_by, cast_mark, is_int, is_argument, has_parameters, main_mark, plain_word_mark, sign_mark, character_mark, token_mark, may_begin_prototype, is_prototype_place, code_mark};
+ghost use Rattle.lab_port_rules.specs.Codes.{has_form, is_extern_place, begins_external, prototype_rule, word_mark, storage_mark, whole_type_mark, type_mark, number_mark, precedes_operand, ends_operand, cast_rule, cast_by, cast_mark, is_int, is_argument, has_parameters, main_mark, plain_word_mark, lacking_if, is_pointer, is_address, precedes_prefix, text_mark, sign_mark, character_mark, token_mark, may_begin_prototype, is_prototype_place, code_mark};
 
-use crate::ahead::{
-    Call, Cast, CastEnd, call_size, cast_end, is_close, is_comma, is_open, is_semicolon, is_star,
-    name_ahead, nth_class, prototype_size, run_end,
-};
-use crate::context::{Context, is_abort, is_floating_type};
-use crate::facts::Facts;
 use crate::library::{begins_statement, changed_by, changed_if, library_mark};
 use crate::mark::Mark;
 use crate::rule::Rule;
-use lab_port_words::{Class, Form, Lack, Sign, Storage, TypeWord, Word, is_word};
+use lab_port_context::{
+    Call, Cast, CastEnd, Context, Facts, call_size, cast_end, is_abort, is_close, is_comma,
+    is_floating_type, is_open, is_semicolon, is_star, is_type, name_ahead, nth_class,
+    prototype_size, run_end,
+};
+use lab_port_words::{Class, Form, Format, Lack, Sign, Storage, TypeWord, Word, is_word};
 
 /// The mark of a token of code.
 pub(crate) fn code_mark(facts: Facts, context: Context, class: Class, rest: &[Class]) -> Mark
@@ -58,7 +57,7 @@ fn may_begin_prototype(class: Class) -> bool
 fn begins_external(context: Context) -> bool
     ensures { result ≡ begins_external context }
 {
-    context.braces == 0 && begins_statement(context.last)
+    context.braces == 0 && begins_statement(context)
 }
 
 // The mark of a token of code that begins no prototype of the library.
@@ -66,8 +65,7 @@ fn token_mark(facts: Facts, context: Context, class: Class, rest: &[Class]) -> M
     ensures { result ≡ token_mark facts context class rest.now }
 {
     match class {
-        Class::Gap => Mark::Kept,
-        Class::LineEnd => Mark::Kept,
+        Class::Gap | Class::Join | Class::LineEnd => Mark::Kept,
         Class::Sign(sign) => sign_mark(sign, context, rest),
         Class::Type(word) => type_mark(word, context, rest),
         Class::Storage(word) => storage_mark(word, context, rest),
@@ -77,7 +75,7 @@ fn token_mark(facts: Facts, context: Context, class: Class, rest: &[Class]) -> M
         Class::Hash(_) => Mark::Kept,
         Class::Word(word) => plain_word_mark(word, facts, context, rest),
         Class::Number(form) => number_mark(form),
-        Class::Text(respelled) => changed_if(respelled, Rule::Format),
+        Class::Text(format) => text_mark(format),
         Class::Character(number) => character_mark(number, context),
     }
 }
@@ -115,7 +113,7 @@ fn storage_mark(word: Storage, context: Context, rest: &[Class]) -> Mark
             )
         }
         Storage::Extern => changed_if(is_extern_place(context, rest), Rule::Storage),
-        Storage::Attribute => changed_by(call_size(Call::Any, rest), Rule::Storage),
+        Storage::Attribute => changed_by(call_size(Call::Any, rest), Rule::Attribute),
     }
 }
 
@@ -145,31 +143,13 @@ fn type_mark(word: TypeWord, context: Context, rest: &[Class]) -> Mark
 fn whole_type_mark(word: TypeWord, context: Context, rest: &[Class]) -> Mark
     ensures { result ≡ whole_type_mark word context rest.now }
 {
-    if !has_form(context, rest) || (is_char(word) && is_bracket(run_end(rest))) {
+    if !has_form(context, rest) {
         return Mark::Kept;
     }
     if context.typed {
         return Mark::Changed(Rule::TypeAgain(word), 0);
     }
     Mark::Changed(Rule::Type(word), 0)
-}
-
-fn is_bracket(class: Class) -> bool
-    ensures { result ≡ is_bracket class }
-{
-    match class {
-        Class::Sign(Sign::OpenBracket) => true,
-        _ => false,
-    }
-}
-
-fn is_char(word: TypeWord) -> bool
-    ensures { result ≡ is_char word }
-{
-    match word {
-        TypeWord::Char => true,
-        _ => false,
-    }
 }
 
 /// A number.
@@ -191,8 +171,60 @@ fn sign_mark(sign: Sign, context: Context, rest: &[Class]) -> Mark
 {
     match sign {
         Sign::Open => cast_mark(context, rest),
+        Sign::Star => lacking_if(is_pointer(context), Lack::Pointer),
+        Sign::And => lacking_if(is_address(context), Lack::Pointer),
         Sign::Arrow => Mark::Lacking(Lack::Pointer),
         _ => Mark::Kept,
+    }
+}
+
+/// A token that has no form where this holds.
+pub(crate) fn lacking_if(lacks: bool, lack: Lack) -> Mark
+    ensures { result ≡ lacking_if lacks lack }
+{
+    if lacks {
+        Mark::Lacking(lack)
+    } else {
+        Mark::Kept
+    }
+}
+
+// Whether a star there declares a pointer.
+fn is_pointer(context: Context) -> bool
+    ensures { result ≡ is_pointer context }
+{
+    context.typed || context.floating || is_type(context.last)
+}
+
+// Whether an `&` there takes an address.
+fn is_address(context: Context) -> bool
+    ensures { result ≡ is_address context }
+{
+    match context.last {
+        Class::Sign(sign) => precedes_prefix(sign),
+        Class::Word(Word::Return) => true,
+        _ => false,
+    }
+}
+
+// Whether an operator after it has one operand alone.
+fn precedes_prefix(sign: Sign) -> bool
+    ensures { result ≡ precedes_prefix sign }
+{
+    match sign {
+        Sign::Close | Sign::CloseBracket | Sign::Steps => false,
+        _ => true,
+    }
+}
+
+// A text.
+fn text_mark(format: Format) -> Mark
+    ensures { result ≡ text_mark format }
+{
+    match format {
+        Format::Same => Mark::Kept,
+        Format::Respelled => Mark::Changed(Rule::Format, 0),
+        Format::Lacking => Mark::Lacking(Lack::Conversion),
     }
 }
 
@@ -207,11 +239,14 @@ fn precedes_operand(class: Class) -> bool
     }
 }
 
-// Whether an operand may begin with it.
-fn is_operand_first(class: Class) -> bool
-    ensures { result ≡ is_operand_first class }
+// Whether no operand begins with it: the end of an expression, or a bracket of a list.
+fn ends_operand(class: Class) -> bool
+    ensures { result ≡ ends_operand class }
 {
-    !(is_semicolon(class) || is_close(class)) && !(is_comma(class) || is_bracket(class))
+    match class {
+        Class::Sign(Sign::OpenBracket | Sign::OpenBrace) => true,
+        _ => is_semicolon(class) || is_close(class) || is_comma(class),
+    }
 }
 
 fn cast_rule(cast: Cast) -> Rule
@@ -243,7 +278,7 @@ fn cast_with_operand(end: CastEnd, rest: &[Class]) -> Mark
     requires { end.size ≤ length rest.now }
     ensures { result ≡ cast_by (Some end) rest.now }
 {
-    if is_operand_first(nth_class(0, &rest[end.size..])) {
+    if !ends_operand(nth_class(0, &rest[end.size..])) {
         Mark::Changed(cast_rule(end.cast), end.size)
     } else {
         Mark::Kept

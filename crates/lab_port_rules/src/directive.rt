@@ -3,14 +3,15 @@
 ghost use Rattle.std.specs.Prelude.{◌≡◌, ◌≤◌, length, IfSome};
 ghost use Rattle.lab_port_rules.specs.Directives.{is_greater, is_less, is_include, is_header, header_size, includes_header, defines_abort, defines_assert, include_rule, include_mark, is_schedule, is_reduction, is_kind, is_operator, with_comma, clause_by, dropped_clause, is_one, collapses_one, collapse_mark, clause_mark, directive_mark};
 
-use crate::ahead::{Call, call_size, is_close, is_comma, is_open, nth_class, size_to};
-use crate::code::number_mark;
-use crate::context::{Context, is_stdlib};
-use crate::facts::{Facts, is_assert};
+use crate::code::lacking_if;
 use crate::library::{changed_by, changed_if};
 use crate::mark::Mark;
 use crate::rule::Rule;
-use lab_port_words::{Class, Clause, Form, Hash, Sign, Storage};
+use lab_port_context::{
+    Call, Context, Facts, call_size, is_assert, is_close, is_comma, is_open, is_stdlib, nth_class,
+    size_to,
+};
+use lab_port_words::{Class, Clause, Form, Hash, Lack, Sign, Storage};
 
 /// The mark of a `#` that begins a line.
 pub(crate) fn include_mark(facts: Facts, context: Context, rest: &[Class]) -> Mark
@@ -56,14 +57,11 @@ fn includes_header(rest: &[Class]) -> bool
     is_include(nth_class(0, rest)) && is_less(nth_class(1, rest)) && !is_header(nth_class(2, rest))
 }
 
-// How many pieces of the line there are up to the `>` and with it.
+// How many pieces there are up to the `>` and with it.
 fn header_size(rest: &[Class]) -> Option<usize>
     ensures { result ≡ header_size 0 rest.now }
 {
     for (i, class) in rest.iter().enumerate() {
-        if let Class::LineEnd = *class {
-            return None;
-        }
         if is_greater(*class) {
             return Some(i + 1);
         }
@@ -117,7 +115,6 @@ pub(crate) fn directive_mark(context: Context, class: Class, rest: &[Class]) -> 
         Class::Clause(word) => clause_mark(word, context, rest),
         Class::Storage(Storage::Auto) => changed_if(is_kind(context), Rule::Static),
         Class::Sign(Sign::Minus) => changed_if(is_operator(context), Rule::Plus),
-        Class::Number(form) => number_mark(form),
         _ => Mark::Kept,
     }
 }
@@ -131,9 +128,10 @@ fn clause_mark(word: Clause, context: Context, rest: &[Class]) -> Mark
         Clause::Guided => changed_if(is_kind(context), Rule::Dynamic),
         Clause::Runtime => changed_if(is_kind(context), Rule::Static),
         Clause::Bare => dropped_clause(context, Some(0), rest),
-        Clause::Called => dropped_clause(context, call_size(Call::Clause, rest), rest),
+        Clause::Called => dropped_clause(context, call_size(Call::Pure, rest), rest),
         Clause::Collapse => collapse_mark(context, rest),
         Clause::Reduction => Mark::Kept,
+        Clause::Lacking => lacking_if(context.parens == 0, Lack::Directive),
     }
 }
 

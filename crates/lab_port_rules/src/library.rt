@@ -1,14 +1,13 @@
 //! Where the rules of names of the library apply.
 
 ghost use Rattle.std.specs.Prelude.{◌≡◌};
-ghost use Rattle.lab_port_rules.specs.Libraries.{changed_if, changed_by, ends_statement, begins_statement, whole_statement, name_of_statement, is_text, print_rule, print_mark, puts_text, puts_mark, lacking_call, exit_mark, library_mark};
+ghost use Rattle.lab_port_rules.specs.Libraries.{changed_if, changed_by, ends_statement, begins_after, begins_statement, whole_statement, name_of_statement, is_text, print_rule, print_mark, puts_text, puts_mark, lacking_call, exit_mark, library_mark};
 
-use crate::ahead::{
-    Call, call_size, is_close, is_comma, is_open, nth_class, size_to, statement_size,
-};
-use crate::context::Context;
 use crate::mark::Mark;
 use crate::rule::Rule;
+use lab_port_context::{
+    Call, Context, call_size, is_close, is_comma, is_open, nth_class, size_to, statement_size,
+};
 use lab_port_words::{Class, Lack, Library, Sign, Word};
 
 /// The mark of a name of the library.
@@ -32,6 +31,7 @@ pub(crate) fn library_mark(name: Library, context: Context, rest: &[Class]) -> M
         Library::Largest => Mark::Changed(Rule::Largest, 0),
         Library::Least => Mark::Changed(Rule::Least, 0),
         Library::NoDebug => Mark::Kept,
+        Library::BroughtIn => Mark::Kept,
         Library::Lacking(lack) => lacking_call(lack, rest),
     }
 }
@@ -57,9 +57,15 @@ pub(crate) fn changed_by(size: Option<usize>, rule: Rule) -> Mark
     }
 }
 
-/// Whether a statement or a declaration may begin after a token.
-pub(crate) fn begins_statement(class: Class) -> bool
-    ensures { result ≡ begins_statement class }
+/// Whether a statement or a declaration may begin there.
+pub(crate) fn begins_statement(context: Context) -> bool
+    ensures { result ≡ begins_statement context }
+{
+    context.parens == 0 && begins_after(context.last)
+}
+
+fn begins_after(class: Class) -> bool
+    ensures { result ≡ begins_after class }
 {
     match class {
         Class::LineEnd => true,
@@ -82,7 +88,7 @@ fn ends_statement(sign: Sign) -> bool
 fn whole_statement(context: Context, call: Call, rest: &[Class], rule: Rule) -> Mark
     ensures { result ≡ whole_statement context call rest.now rule }
 {
-    if !begins_statement(context.last) {
+    if !begins_statement(context) {
         return Mark::Kept;
     }
     changed_by(statement_size(call, rest), rule)
@@ -92,7 +98,7 @@ fn whole_statement(context: Context, call: Call, rest: &[Class], rule: Rule) -> 
 fn name_of_statement(context: Context, rest: &[Class], rule: Rule) -> Mark
     ensures { result ≡ name_of_statement context rest.now rule }
 {
-    let applies = begins_statement(context.last) && statement_size(Call::Any, rest).is_some();
+    let applies = begins_statement(context) && statement_size(Call::Any, rest).is_some();
     changed_if(applies, rule)
 }
 
@@ -162,7 +168,7 @@ fn exit_mark(context: Context, rest: &[Class]) -> Mark
     ensures { result ≡ exit_mark context rest.now }
 {
     if !context.in_main {
-        return Mark::Kept;
+        return lacking_call(Lack::Exit, rest);
     }
     name_of_statement(context, rest, Rule::Exit)
 }

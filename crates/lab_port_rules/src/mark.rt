@@ -1,13 +1,14 @@
 //! What each piece of a source becomes.
 
 ghost use Rattle.std.specs.Prelude.{◌≡◌, IfOk};
-ghost use Rattle.lab_port_rules.specs.Marks.{first_mark, define_mark, mark_at, mark_here, taken_by, taken_after, marks_of};
+ghost use Rattle.lab_port_rules.specs.Marks.{first_mark, define_mark, mark_at, mark_here, taken_by, taken_after, first_place, leaves_out, drops_here, context_beyond, place_behind, marks_of};
 
 use crate::code::{code_mark, number_mark};
-use crate::context::{Context, Line, at_first, context_behind};
 use crate::directive::{directive_mark, include_mark};
-use crate::facts::{Facts, facts_of, in_sight};
 use crate::rule::Rule;
+use lab_port_context::{
+    Context, Facts, Line, at_first, context_behind, facts_of, in_sight, of_line,
+};
 use lab_port_words::{Class, Lack, Sign};
 use om_seq::AllocResult;
 use std::alloc::Global;
@@ -31,23 +32,88 @@ pub fn marks_of(alloc: Global, all: &[Class]) -> AllocResult<Vec<Mark>>
 {
     let facts = facts_of(all);
     let mut marks = Vec::new(alloc);
-    let mut context = at_first();
-    let mut taken = 0;
+    let mut place = first_place();
     for (i, class) in all.iter().enumerate() {
-        let mark = mark_here(facts, context, taken, *class, &all[i + 1..]);
+        let mark = mark_here(facts, place, *class, &all[i + 1..]);
         marks.push(mark)?;
-        taken = taken_after(taken, mark);
-        context = context_behind(context, *class);
+        place = place_behind(place, mark, *class);
     }
     Ok(marks)
 }
 
-// A piece, which the rule of an earlier one takes if so many are still taken.
-fn mark_here(facts: Facts, context: Context, taken: usize, class: Class, rest: &[Class]) -> Mark
-    ensures { result ≡ mark_here facts context taken class rest.now }
+/// A place between two pieces, as the rules see it.
+#[derive(Clone, Copy)]
+pub struct Place {
+    /// What stands before it in the text, of what rules leave there.
+    pub context: Context,
+    /// How many pieces that follow are taken by the rule of an earlier one.
+    pub taken: usize,
+    /// Whether that rule leaves them out.
+    pub drops: bool,
+}
+
+fn first_place() -> Place
+    ensures { result ≡ first_place }
 {
-    if taken == 0 {
-        mark_at(facts, context, class, rest)
+    Place {
+        context: at_first(),
+        taken: 0,
+        drops: false,
+    }
+}
+
+// The place after a piece with this mark.
+fn place_behind(place: Place, mark: Mark, class: Class) -> Place
+    ensures { result ≡ place_behind place mark class }
+{
+    let drops = drops_here(place, mark);
+    Place {
+        context: context_beyond(place.context, drops, class),
+        taken: taken_after(place.taken, mark),
+        drops,
+    }
+}
+
+// Whether the piece there is left out.
+fn drops_here(place: Place, mark: Mark) -> bool
+    ensures { result ≡ drops_here place mark }
+{
+    match mark {
+        Mark::Changed(rule, _) => leaves_out(rule),
+        Mark::Taken => place.drops,
+        _ => false,
+    }
+}
+
+// Whether a rule leaves out a part of a declaration, of an expression or of a directive, so that what stands
+// before that part stands before what follows it.
+fn leaves_out(rule: Rule) -> bool
+    ensures { result ≡ leaves_out rule }
+{
+    match rule {
+        Rule::Attribute | Rule::Volatile => true,
+        Rule::Cast | Rule::WideCast | Rule::NarrowCast | Rule::DropClause => true,
+        _ => false,
+    }
+}
+
+// What stands before the next piece; what is left out does not.
+fn context_beyond(context: Context, drops: bool, class: Class) -> Context
+    ensures { result ≡ context_beyond context drops class }
+{
+    if drops {
+        context
+    } else {
+        context_behind(context, class)
+    }
+}
+
+// A piece, which the rule of an earlier one takes if so many are still taken.
+fn mark_here(facts: Facts, place: Place, class: Class, rest: &[Class]) -> Mark
+    ensures { result ≡ mark_here facts place class rest.now }
+{
+    if place.taken == 0 {
+        mark_at(facts, place.context, class, rest)
     } else {
         Mark::Taken
     }
@@ -83,7 +149,7 @@ fn mark_at(facts: Facts, context: Context, class: Class, rest: &[Class]) -> Mark
         Line::Fresh => first_mark(facts, context, class, rest),
         Line::Code => code_mark(facts, context, class, rest),
         Line::Define => define_mark(class),
-        Line::Omp => directive_mark(context, class, rest),
+        Line::Omp => directive_mark(context, class, of_line(rest)),
         _ => Mark::Kept,
     }
 }
@@ -93,7 +159,7 @@ fn first_mark(facts: Facts, context: Context, class: Class, rest: &[Class]) -> M
     ensures { result ≡ first_mark facts context class rest.now }
 {
     match class {
-        Class::Sign(Sign::Hash) => include_mark(facts, context, rest),
+        Class::Sign(Sign::Hash) => include_mark(facts, context, of_line(rest)),
         _ => code_mark(facts, context, class, rest),
     }
 }

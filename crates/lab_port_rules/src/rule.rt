@@ -9,9 +9,11 @@ pub enum Rule {
     Include,
     /// `storage`: a word of storage, or a prototype of the library, that is left out.
     Storage,
+    /// `storage`: an `__attribute__` that is left out.
+    Attribute,
     /// `volatile`: the word is left out.
     Volatile,
-    /// `narrow`, `unsigned`: the first word of a type becomes `int`.
+    /// `narrow`, `bool`, `unsigned`: the first word of a type becomes `int`.
     Type(TypeWord),
     /// The same, for a further word of the type, which is left out.
     TypeAgain(TypeWord),

@@ -6,6 +6,7 @@ use Rattle.lab_port_words.specs.declared.class.Class.TheVariants as classes
 -- white space, a comment or a line feed
 abbrev pub is_gap : Class → Bool
 is_gap classes.Gap = true
+is_gap classes.Join = true
 is_gap classes.LineEnd = true
 is_gap _ = false
 

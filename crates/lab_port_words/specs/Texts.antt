@@ -4,6 +4,8 @@ use Rattle.std.specs.Str.{bytes_eq}
 use Rattle.std.specs.List.{list_any}
 use Rattle.lab_port_words.specs.declared.class.Form.{Form}
 use Rattle.lab_port_words.specs.declared.class.Form.TheVariants as forms
+use Rattle.lab_port_words.specs.declared.class.Format.{Format}
+use Rattle.lab_port_words.specs.declared.class.Format.TheVariants as formats
 
 -- the byte is one of these
 abbrev pub is_one_of : List ℕ → ℕ → Bool
@@ -81,9 +83,12 @@ is_respelled inside [] = false
 is_respelled true (b ∷ rest) = is_modifier b || (is_one_of (codes "iu") b || is_respelled false rest)
 is_respelled false (b ∷ rest) = is_respelled (b == 37) rest
 
--- a text is a format that the subset has in another spelling
-abbrev pub is_format : List ℕ → Bool
-is_format text = has_whole_numbers false text && is_respelled false text
+-- which conversions a text has, as a format
+abbrev pub format_of : List ℕ → Format
+format_of text =
+    if not (has_whole_numbers false text) then formats.Lacking
+    else if is_respelled false text then formats.Respelled
+    else formats.Same
 
 -- each percent sign is doubled
 abbrev pub doubled : List ℕ → List ℕ

@@ -6,8 +6,10 @@ ghost use Rattle.lab_port_words.specs.Classes.{is_gap, is_word};
 /// What a piece is to the rules.
 #[derive(Clone, Copy)]
 pub enum Class {
-    /// White space in a line, or a comment.
+    /// White space or a comment, without a line feed.
     Gap,
+    /// White space or a comment with a line feed in it, which ends no line (C17 5.1.1.2, phases 2 and 3).
+    Join,
     /// A line feed.
     LineEnd,
     /// A punctuator.
@@ -26,8 +28,8 @@ pub enum Class {
     Word(Word),
     /// A number.
     Number(Form),
-    /// A text, and whether it is a format that the subset has in another spelling.
-    Text(bool),
+    /// A text, and which conversions it has.
+    Text(Format),
     /// A character, and its number if it is one character or one escape (C17 6.4.4.4).
     Character(Option<u8>),
 }
@@ -57,6 +59,8 @@ pub enum Sign {
     Hash,
     /// `*`
     Star,
+    /// `&`
+    And,
     /// `-`
     Minus,
     /// `<`
@@ -65,8 +69,10 @@ pub enum Sign {
     Greater,
     /// `->`
     Arrow,
-    /// `=`, `++`, `--` or a compound assignment: what changes a value.
+    /// `=` or a compound assignment.
     Changes,
+    /// `++` or `--`
+    Steps,
     /// Any other.
     Other,
 }
@@ -86,6 +92,8 @@ pub enum TypeWord {
     Short,
     /// `unsigned`, and names of unsigned types of 32 bits or more.
     Unsigned,
+    /// `bool`, `_Bool`
+    Truth,
     /// `void`
     Void,
     /// `float` or `double`
@@ -142,8 +150,10 @@ pub enum Library {
     Largest,
     /// `INT_MIN`
     Least,
-    /// `NDEBUG`, and a name that a rule brings in
+    /// `NDEBUG`
     NoDebug,
+    /// A name that a rule brings in.
+    BroughtIn,
     /// A function that has no form here.
     Lacking(Lack),
 }
@@ -153,12 +163,24 @@ pub enum Library {
 pub enum Lack {
     /// Floating point.
     Floating,
-    /// `->`
+    /// `*` of a declaration, `&` of an address, `->`
     Pointer,
     /// `goto`, `asm`, `_Generic`
     Statement,
+    /// `struct`
+    Struct,
     /// `union`
     Union,
+    /// An `exit` outside of `main`.
+    Exit,
+    /// A lock of OpenMP.
+    Lock,
+    /// A routine whose answer or effect depends on the number of threads that is asked for.
+    Threads,
+    /// A conversion of `printf` other than of a whole number.
+    Conversion,
+    /// A directive or a clause.
+    Directive,
     /// `malloc` and its like.
     Memory,
     /// `scanf` and its like.
@@ -184,6 +206,8 @@ pub enum Clause {
     Collapse,
     /// `reduction`
     Reduction,
+    /// A word that has no form.
+    Lacking,
 }
 
 /// Words of `#` lines (C17 6.10).
@@ -220,6 +244,17 @@ pub enum Word {
     Other,
 }
 
+/// Which conversions a text has, as a format of `printf` (C17 7.21.6.1).
+#[derive(Clone, Copy)]
+pub enum Format {
+    /// Those of whole numbers as the subset spells them, or none.
+    Same,
+    /// Those of whole numbers, one at least in another spelling.
+    Respelled,
+    /// One of another kind.
+    Lacking,
+}
+
 /// Forms of numbers (C17 6.4.4).
 #[derive(Clone, Copy)]
 pub enum Form {
@@ -240,7 +275,7 @@ pub fn is_gap(class: Class) -> bool
     ensures { result ≡ is_gap class }
 {
     match class {
-        Class::Gap | Class::LineEnd => true,
+        Class::Gap | Class::Join | Class::LineEnd => true,
         _ => false,
     }
 }

@@ -11,7 +11,8 @@ mod table;
 mod text;
 
 pub use class::{
-    Class, Clause, Form, Hash, Lack, Library, Sign, Storage, TypeWord, Word, is_gap, is_word,
+    Class, Clause, Form, Format, Hash, Lack, Library, Sign, Storage, TypeWord, Word, is_gap,
+    is_word,
 };
 pub use table::{class_of, classes_of};
 pub use text::{push_format, push_line_text, push_number, push_without_suffix};

@@ -2,10 +2,10 @@
 
 ghost use Rattle.std.specs.Prelude.{◌≡◌, map, IfOk};
 ghost use Rattle.std.specs.Str.{bytes_eq};
-ghost use Rattle.lab_port_words.specs.Tables.{class_in, word_class, sign_class, text_class, class_by, class_of, classes_of};
+ghost use Rattle.lab_port_words.specs.Tables.{class_in, word_class, sign_class, gap_class, text_class, class_by, class_of, classes_of};
 
 use crate::class::{Class, Clause, Hash, Lack, Library, Sign, Storage, TypeWord, Word};
-use crate::text::{character_number, form_of, has_one_of, is_format};
+use crate::text::{character_number, form_of, format_of, has_one_of};
 use lab_port_tokens::{Piece, PieceKind};
 use om_seq::AllocResult;
 use std::alloc::Global;
@@ -13,7 +13,7 @@ use std::alloc::Global;
 // A name, and the class that it has.
 type Row = (&'static [u8], Class);
 
-const WORDS: [Row; 111] = [
+const WORDS: [Row; 147] = [
     (b"int", Class::Type(TypeWord::Int)),
     (b"signed", Class::Type(TypeWord::Signed)),
     (b"__signed__", Class::Type(TypeWord::Signed)),
@@ -34,6 +34,8 @@ const WORDS: [Row; 111] = [
     (b"uint32_t", Class::Type(TypeWord::Unsigned)),
     (b"uint64_t", Class::Type(TypeWord::Unsigned)),
     (b"uintptr_t", Class::Type(TypeWord::Unsigned)),
+    (b"bool", Class::Type(TypeWord::Truth)),
+    (b"_Bool", Class::Type(TypeWord::Truth)),
     (b"void", Class::Type(TypeWord::Void)),
     (b"double", Class::Type(TypeWord::Floating)),
     (b"float", Class::Type(TypeWord::Floating)),
@@ -82,7 +84,7 @@ const WORDS: [Row; 111] = [
     (b"INT_MAX", Class::Library(Library::Largest)),
     (b"INT_MIN", Class::Library(Library::Least)),
     (b"NDEBUG", Class::Library(Library::NoDebug)),
-    (b"assert__ok", Class::Library(Library::NoDebug)),
+    (b"assert__ok", Class::Library(Library::BroughtIn)),
     (b"malloc", Class::Library(Library::Lacking(Lack::Memory))),
     (b"calloc", Class::Library(Library::Lacking(Lack::Memory))),
     (b"realloc", Class::Library(Library::Lacking(Lack::Memory))),
@@ -96,6 +98,43 @@ const WORDS: [Row; 111] = [
     (b"rand_r", Class::Library(Library::Lacking(Lack::Random))),
     (b"random", Class::Library(Library::Lacking(Lack::Random))),
     (b"drand48", Class::Library(Library::Lacking(Lack::Random))),
+    (
+        b"omp_init_lock",
+        Class::Library(Library::Lacking(Lack::Lock)),
+    ),
+    (
+        b"omp_destroy_lock",
+        Class::Library(Library::Lacking(Lack::Lock)),
+    ),
+    (
+        b"omp_set_lock",
+        Class::Library(Library::Lacking(Lack::Lock)),
+    ),
+    (
+        b"omp_unset_lock",
+        Class::Library(Library::Lacking(Lack::Lock)),
+    ),
+    (
+        b"omp_test_lock",
+        Class::Library(Library::Lacking(Lack::Lock)),
+    ),
+    (
+        b"omp_set_num_threads",
+        Class::Library(Library::Lacking(Lack::Threads)),
+    ),
+    (
+        b"omp_get_max_threads",
+        Class::Library(Library::Lacking(Lack::Threads)),
+    ),
+    (
+        b"omp_get_num_procs",
+        Class::Library(Library::Lacking(Lack::Threads)),
+    ),
+    (
+        b"omp_get_wtime",
+        Class::Library(Library::Lacking(Lack::Floating)),
+    ),
+    (b"atoi", Class::Library(Library::Lacking(Lack::Input))),
     (b"schedule", Class::Clause(Clause::Schedule)),
     (b"guided", Class::Clause(Clause::Guided)),
     (b"runtime", Class::Clause(Clause::Runtime)),
@@ -111,6 +150,27 @@ const WORDS: [Row; 111] = [
     (b"allocate", Class::Clause(Clause::Called)),
     (b"collapse", Class::Clause(Clause::Collapse)),
     (b"reduction", Class::Clause(Clause::Reduction)),
+    (b"lastprivate", Class::Clause(Clause::Lacking)),
+    (b"linear", Class::Clause(Clause::Lacking)),
+    (b"ordered", Class::Clause(Clause::Lacking)),
+    (b"depend", Class::Clause(Clause::Lacking)),
+    (b"doacross", Class::Clause(Clause::Lacking)),
+    (b"copyprivate", Class::Clause(Clause::Lacking)),
+    (b"copyin", Class::Clause(Clause::Lacking)),
+    (b"threadprivate", Class::Clause(Clause::Lacking)),
+    (b"detach", Class::Clause(Clause::Lacking)),
+    (b"in_reduction", Class::Clause(Clause::Lacking)),
+    (b"task_reduction", Class::Clause(Clause::Lacking)),
+    (b"capture", Class::Clause(Clause::Lacking)),
+    (b"compare", Class::Clause(Clause::Lacking)),
+    (b"taskloop", Class::Clause(Clause::Lacking)),
+    (b"simd", Class::Clause(Clause::Lacking)),
+    (b"target", Class::Clause(Clause::Lacking)),
+    (b"teams", Class::Clause(Clause::Lacking)),
+    (b"distribute", Class::Clause(Clause::Lacking)),
+    (b"cancel", Class::Clause(Clause::Lacking)),
+    (b"cancellation", Class::Clause(Clause::Lacking)),
+    (b"declare", Class::Clause(Clause::Lacking)),
     (b"include", Class::Hash(Hash::Include)),
     (b"define", Class::Hash(Hash::Define)),
     (b"pragma", Class::Hash(Hash::Pragma)),
@@ -128,9 +188,12 @@ const WORDS: [Row; 111] = [
     (b"__asm__", Class::Word(Word::Lacking(Lack::Statement))),
     (b"_Generic", Class::Word(Word::Lacking(Lack::Statement))),
     (b"union", Class::Word(Word::Lacking(Lack::Union))),
+    (b"struct", Class::Word(Word::Lacking(Lack::Struct))),
+    (b"omp_lock_t", Class::Word(Word::Lacking(Lack::Lock))),
+    (b"omp_nest_lock_t", Class::Word(Word::Lacking(Lack::Lock))),
 ];
 
-const SIGNS: [Row; 28] = [
+const SIGNS: [Row; 29] = [
     (b"(", Class::Sign(Sign::Open)),
     (b")", Class::Sign(Sign::Close)),
     (b"{", Class::Sign(Sign::OpenBrace)),
@@ -142,13 +205,14 @@ const SIGNS: [Row; 28] = [
     (b":", Class::Sign(Sign::Colon)),
     (b"#", Class::Sign(Sign::Hash)),
     (b"*", Class::Sign(Sign::Star)),
+    (b"&", Class::Sign(Sign::And)),
     (b"-", Class::Sign(Sign::Minus)),
     (b"<", Class::Sign(Sign::Less)),
     (b">", Class::Sign(Sign::Greater)),
     (b"->", Class::Sign(Sign::Arrow)),
     (b"=", Class::Sign(Sign::Changes)),
-    (b"++", Class::Sign(Sign::Changes)),
-    (b"--", Class::Sign(Sign::Changes)),
+    (b"++", Class::Sign(Sign::Steps)),
+    (b"--", Class::Sign(Sign::Steps)),
     (b"+=", Class::Sign(Sign::Changes)),
     (b"-=", Class::Sign(Sign::Changes)),
     (b"*=", Class::Sign(Sign::Changes)),
@@ -207,13 +271,24 @@ fn class_by(kind: PieceKind, text: &[u8]) -> Class
 {
     match kind {
         PieceKind::LineEnd => Class::LineEnd,
-        PieceKind::Space => Class::Gap,
-        PieceKind::Comment => Class::Gap,
+        PieceKind::Space => gap_class(text),
+        PieceKind::Comment => gap_class(text),
         PieceKind::Word => word_class(text),
         PieceKind::Number => Class::Number(form_of(text)),
         PieceKind::Text => text_class(text),
         PieceKind::Character => Class::Character(character_number(text)),
         PieceKind::Mark => sign_class(text),
+    }
+}
+
+// The class of white space in a line, or of a comment.
+fn gap_class(text: &[u8]) -> Class
+    ensures { result ≡ gap_class text.now }
+{
+    if has_one_of(b"\n", text) {
+        Class::Join
+    } else {
+        Class::Gap
     }
 }
 
@@ -224,7 +299,7 @@ fn text_class(text: &[u8]) -> Class
     if has_one_of(b"\n", text) {
         return Class::Sign(Sign::Other);
     }
-    Class::Text(is_format(text))
+    Class::Text(format_of(text))
 }
 
 /// The classes of all pieces, in order. The only error is out of memory.

@@ -1,9 +1,9 @@
 //! What a number, a character or a format is, and what rules write for it.
 
 ghost use Rattle.std.specs.Prelude.{◌≡◌, ◌++◌, ◌∷◌, [], false, slice_index, OnOk, decimal, drop, flat_map, if◌then◌else◌, ◌==◌};
-ghost use Rattle.lab_port_words.specs.Texts.{is_one_of, has_one_of, is_suffix, is_hexadecimal, is_floating, form_of, without_suffix, escape_number, character_number, is_modifier, plain_format, has_whole_numbers, is_respelled, is_format, doubled, line_text};
+ghost use Rattle.lab_port_words.specs.Texts.{is_one_of, has_one_of, is_suffix, is_hexadecimal, is_floating, form_of, without_suffix, escape_number, character_number, is_modifier, plain_format, has_whole_numbers, is_respelled, format_of, doubled, line_text};
 
-use crate::class::Form;
+use crate::class::{Form, Format};
 use itoa::Buffer;
 use om_seq::AllocResult;
 
@@ -166,11 +166,18 @@ fn is_respelled(text: &[u8]) -> bool
     false
 }
 
-/// Whether a text is a format that the subset has in another spelling.
-pub(crate) fn is_format(text: &[u8]) -> bool
-    ensures { result ≡ is_format text.now }
+/// Which conversions a text has, as a format.
+pub(crate) fn format_of(text: &[u8]) -> Format
+    ensures { result ≡ format_of text.now }
 {
-    has_whole_numbers(text) && is_respelled(text)
+    if !has_whole_numbers(text) {
+        return Format::Lacking;
+    }
+    if is_respelled(text) {
+        Format::Respelled
+    } else {
+        Format::Same
+    }
 }
 
 /// Appends a format with `%d` in place of each conversion of a whole number. The only error is out of memory.

@@ -1,4 +1,4 @@
-use Rattle.std.proofs.Common.{◌≡◌, ◌++◌, drop, take}
+use Rattle.std.proofs.Common.{◌≡◌, ◌++◌, drop}
 use Rattle.lab_port.specs.Portings.{changes_from}
 use Rattle.lab_port.proofs.ported.changes_of.Given as goal
 

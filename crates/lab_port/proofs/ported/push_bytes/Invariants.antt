@@ -1,4 +1,4 @@
-use Rattle.std.proofs.Common.{◌≡◌, ◌++◌, drop, take}
+use Rattle.std.proofs.Common.{◌≡◌, ◌++◌, drop}
 use Rattle.lab_port_tokens.specs.Pieces.{bytes_of}
 use Rattle.lab_port.proofs.ported.push_bytes.Given as goal
 

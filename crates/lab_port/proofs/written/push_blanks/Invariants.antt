@@ -1,4 +1,4 @@
-use Rattle.std.proofs.Common.{◌≡◌, ◌++◌, drop, take}
+use Rattle.std.proofs.Common.{◌≡◌, ◌++◌, drop}
 use Rattle.lab_port.specs.Written.{blanks_behind}
 use Rattle.lab_port.proofs.written.push_blanks.Given as goal
 

@@ -1,4 +1,4 @@
-use Rattle.std.proofs.Common.{◌≡◌, ◌+◌, drop}
+use Rattle.std.proofs.Common.{◌≡◌, drop}
 use Rattle.lab_port_rules.specs.Directives.{header_size}
 use Rattle.lab_port_rules.proofs.directive.header_size.Given as goal
 
