@@ -3,7 +3,8 @@
 
 It reads a source on its standard input, and writes the text, a line `====` and the changes: `python3 tests/port.py
 tests/model/port.py` compares it with gcc, and `python3 tests/ported.py tests/model/port.py FOLDER` counts with it.
-It needs Python 3 with its standard library alone.
+Of the tokens without a form it knows those of calls, types, texts and directives, and not those of lists, indices, bits,
+macros and conditions. It needs Python 3 with its standard library alone.
 """
 import os
 import re
@@ -394,7 +395,7 @@ def blanks(owed, old):
         if b == 10 or owed == 0: out.append(b if b in b'\n \t\r' else 32)
         else: owed -= 1
     return bytes(out)
-def port(src):
+def ruled(src):
     ps = cut(src); ms = marks([cls(p) for p in ps])
     changes, lacks, out, at = [], [], bytearray(), 0
     for i, (p, m) in enumerate(zip(ps, ms)):
@@ -407,6 +408,57 @@ def port(src):
         elif m[0] == 'Lacking': lacks.append((p[1], m[1]))
     out += src[at:]
     return bytes(out), changes, lacks
+def line_pieces(ps,i):
+    n=0
+    while i+n<len(ps) and ps[i+n][0]!='LineEnd': n+=1
+    return n
+def skip(ps):
+    k=0
+    while k<len(ps) and ps[k][0] in ('Space','Comment'): k+=1
+    return ps[k:]
+def definition(ps,i):
+    l=skip(ps[i:i+line_pieces(ps,i)])
+    if not l or not (l[0][0]=='Word' and l[0][2]==b'define'): return []
+    return skip(l[1:])
+def is_macro(d):
+    if not d: return False
+    name,body=d[0],d[1:]
+    if name[0]!='Word' or (body and body[0][0]=='Mark' and body[0][2]==b'('): return False
+    if not any(p[0] not in ('Space','Comment','Number') for p in body): return False
+    if any(p[0]=='Mark' and p[2] in (b'#',b'##') for p in body): return False
+    return sum(len(p[2]) for p in body)<=64
+def macros(src):
+    ps=cut(src); cs=[cls(p) for p in ps]
+    x=first(); cond=False
+    for c in cs:
+        if x.line=='Other': cond=True
+        x=behind(x,c)
+    most=0 if cond else 256
+    x=first(); defs=[]; taken=0; changes=[]; out=bytearray(); at=0
+    for i,(p,c) in enumerate(zip(ps,cs)):
+        if taken==0:
+            m=None
+            if x.line=='Fresh' and p[0]=='Mark' and p[2]==b'#' and is_macro(definition(ps,i+1)):
+                if len(defs)<most:
+                    d=definition(ps,i+1)
+                    defs.append((d[0][2],b''.join(b' ' if q[0] in ('Space','Comment') else q[2] for q in d[1:])))
+                    n=line_pieces(ps,i+1); m=('Define',n,b'')
+            elif x.line in ('Fresh','Code','Omp') and p[0]=='Word':
+                t=next((t for n,t in reversed(defs) if n==p[2]),None)
+                if t is not None: m=('Use',0,t)
+            if m:
+                old=b''.join(q[2] for q in ps[i:i+1+m[1]])
+                nw=m[2].replace(b'\n',b' ').replace(b'\r',b' ')
+                changes.append((p[1],m[0],old,nw))
+                out+=src[at:p[1]]+nw+blanks(len(nw),old); at=p[1]+len(old); taken=m[1]
+        else: taken-=1
+        x=behind(x,c)
+    out+=src[at:]
+    return bytes(out),changes
+def port(src):
+    middle, expansions = macros(src)
+    text, changes, lacks = ruled(middle)
+    return text, expansions + changes, lacks
 WARNINGS = {'Volatile': 'hides races', 'Wait': 'hides races', 'UnsignedSuffix': 'wrong value', 'NarrowCast': 'wrong value',
     'Zero': 'wrong value', 'InParallel': 'wrong value', 'Suffix': 'fault', 'WideCast': 'fault', 'Attribute': 'differs',
     'Routine': 'differs', 'PrintError': 'differs', 'Format': 'differs', 'Main': 'differs', 'Dynamic': 'differs', 'Static': 'differs'}

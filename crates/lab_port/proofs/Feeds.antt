@@ -1,9 +1,9 @@
 -- The line feeds of a source all stay.
-use Rattle.std.proofs.Common.{◌≡◌, ℕ, ◌+◌, ◌-◌, ◌≤◌, ◌==◌, cond, List, [], ◌∷◌, ◌++◌, take, drop, length, refl, sym, ap, ◌∙◌, arith}
+use Rattle.std.proofs.Common.{◌≡◌, ℕ, ◌+◌, ◌-◌, ◌≤◌, ◌==◌, cond, List, [], ◌∷◌, ◌++◌, drop, length, refl, sym, ap, ◌∙◌, arith}
 use Rattle.std.proofs.lemmas.List.{take-append-drop, drop-drop}
 use Rattle.std.proofs.lemmas.List.Sums.{sum_by-append}
 use Rattle.lab_port.specs.declared.ported.Change.{Change}
-use Rattle.lab_port.specs.Written.{blank, blanks_behind, part, end_of, written_for, with_changes, line_feeds, Stands, Stand}
+use Rattle.lab_port.specs.Written.{blanks_behind, part, end_of, written_for, with_changes, line_feeds, Stand}
 
 both_feeds : (xs ys : List ℕ) → line_feeds (xs ++ ys) ≡ line_feeds xs + line_feeds ys
 both_feeds xs ys = sum_by-append (λ byte. cond (byte == 10) 1 0) xs ys

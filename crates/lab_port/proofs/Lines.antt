@@ -1,8 +1,7 @@
 -- Where a place stands, where an earlier one is known.
 use Rattle.std.proofs.Common.{◌≡◌, ℕ, ◌+◌, ◌-◌, ◌≤◌, List, [], ◌∷◌, ◌++◌, ◌==◌, cond, if◌then◌else◌, take, drop, length, refl, sym, ap, ◌∙◌, arith, length-drop, take_all, take-add}
-use Rattle.std.proofs.lemmas.List.{length-take-le, length-take}
+use Rattle.std.proofs.lemmas.List.{length-take}
 use Rattle.std.proofs.lemmas.List.Sums.{sum_by-append, sum_by-take-le, count_by-le-length}
-use Rattle.lab_port.specs.declared.place.Seen.{Seen}
 use Rattle.lab_port.specs.Written.{line_feeds}
 use Rattle.lab_port.specs.Places.{line_of, front_behind, front_of}
 

@@ -1,5 +1,5 @@
 -- The list of changes, of their warnings, and of tokens without a form, in lines.
-use Rattle.std.specs.Prelude.{ℕ, List, [], ◌∷◌, ◌++◌, ◌+◌, ◌==◌, ◌||◌, if◌then◌else◌, codes, decimal, count_by, flat_map, map, take, Option, None, Some}
+use Rattle.std.specs.Prelude.{ℕ, List, [], ◌∷◌, ◌++◌, ◌+◌, codes, decimal, flat_map, map, Option, None, Some}
 use Rattle.lab_port_rules.specs.declared.rule.Rule.{Rule}
 use Rattle.lab_port.specs.declared.ported.Change.{Change}
 use Rattle.lab_port.specs.declared.ported.Refusal.{Refusal}
@@ -49,7 +49,3 @@ changes_part file source changes =
 abbrev pub refusals_part : List ℕ → List ℕ → List Refusal → List ℕ
 refusals_part file source refusals =
     flat_map (λ refusal. refusal_lines file source (place_in source refusal.at) refusal.lack) refusals
-
--- the lines of the changes, and then those of the tokens without a form
-abbrev pub listing : List ℕ → List ℕ → List Change → List Refusal → List ℕ
-listing file source changes refusals = changes_part file source changes ++ refusals_part file source refusals

@@ -1,9 +1,10 @@
 -- What rules write.
-use Rattle.std.specs.Prelude.{ℕ, Bool, true, false, List, [], ◌∷◌, ◌++◌, ◌==◌, ◌||◌, if◌then◌else◌, codes, decimal, map}
+use Rattle.std.specs.Prelude.{ℕ, zero, suc, Bool, true, false, List, [], ◌∷◌, ◌++◌, ◌==◌, ◌||◌, if◌then◌else◌, codes, decimal, map}
 use Rattle.lab_port_tokens.specs.declared.piece.Piece.{Piece}
 use Rattle.lab_port_tokens.specs.declared.piece.PieceKind.{PieceKind}
 use Rattle.lab_port_tokens.specs.declared.piece.PieceKind.TheVariants as kinds
 use Rattle.lab_port_words.specs.Texts.{without_suffix, plain_format, line_text}
+use Rattle.lab_port_macros.specs.declared.body.Macro.{Macro}
 use Rattle.lab_port_rules.specs.declared.rule.Rule.{Rule}
 use Rattle.lab_port_rules.specs.declared.rule.Rule.TheVariants as rules
 
@@ -40,20 +41,27 @@ fixed_text _ = []
 abbrev pub printed_text : List ℕ → List ℕ
 printed_text text = codes "printf(" ++ line_text text ++ codes ")"
 
--- what a rule writes for a token with these bytes, and the pieces that it takes; a number that stands for a character
+-- the text of the macro with this number
+abbrev pub macro_text : ℕ → List Macro → List ℕ
+macro_text number [] = []
+macro_text zero (macro ∷ rest) = macro.text
+macro_text (suc number) (macro ∷ rest) = macro_text number rest
+
+-- what a rule writes for a token with these bytes, and the pieces that it takes, where these are the macros; a number that stands for a character
 -- may follow a word
-abbrev pub new_text : Rule → List ℕ → List Piece → List ℕ
-new_text rules.Suffix text taken = without_suffix text
-new_text rules.UnsignedSuffix text taken = without_suffix text
-new_text (rules.Character number) text taken = 32 ∷ decimal number
-new_text rules.Format text taken = plain_format false text
-new_text rules.Puts text taken = printed_text (text_among taken)
-new_text rule text taken = fixed_text rule
+abbrev pub new_text : List Macro → Rule → List ℕ → List Piece → List ℕ
+new_text macros (rules.Use number) text taken = macro_text number macros
+new_text macros rules.Suffix text taken = without_suffix text
+new_text macros rules.UnsignedSuffix text taken = without_suffix text
+new_text macros (rules.Character number) text taken = 32 ∷ decimal number
+new_text macros rules.Format text taken = plain_format false text
+new_text macros rules.Puts text taken = printed_text (text_among taken)
+new_text macros rule text taken = fixed_text rule
 
 -- a line end is a space
 abbrev pub flat_byte : ℕ → ℕ
 flat_byte byte = if byte == 10 || byte == 13 then 32 else byte
 
 -- what a rule writes, on one line
-abbrev pub flat_text : Rule → List ℕ → List Piece → List ℕ
-flat_text rule text taken = map flat_byte (new_text rule text taken)
+abbrev pub flat_text : List Macro → Rule → List ℕ → List Piece → List ℕ
+flat_text macros rule text taken = map flat_byte (new_text macros rule text taken)

@@ -16,6 +16,6 @@ mod written;
 
 pub use lab_port_rules::Rule;
 pub use lab_port_words::Lack;
-pub use list::listing;
+pub use list::{change_list, refusal_list};
 pub use ported::{Change, Ported, Refusal, port};
 pub use words::{Kind, warning_of};

@@ -1,7 +1,7 @@
 //! The list of changes, warnings and tokens without a form, in lines.
 
 ghost use Rattle.std.specs.Prelude.{◌≡◌, ◌++◌, ◌+◌, ◌<◌, ◌^◌, codes, decimal, map, Some, IfOk, OnOk};
-ghost use Rattle.lab_port.specs.Listings.{place_words, becomes, change_line, warning_by, change_lines, refusal_lines, changes_part, refusals_part, listing};
+ghost use Rattle.lab_port.specs.Listings.{place_words, becomes, change_line, warning_by, change_lines, refusal_lines, changes_part, refusals_part};
 ghost use Rattle.lab_port.specs.Texts.{flat_byte};
 ghost use Rattle.lab_port.specs.Places.{IsSeen};
 ghost use Rattle.lab_port.specs.Warnings.{warning_of};
@@ -15,20 +15,30 @@ use lab_port_words::Lack;
 use om_seq::AllocResult;
 use std::alloc::Global;
 
-/// A line for each change and for each of its warnings, and then what `check` would say of each token without a form.
-/// The only error is out of memory.
-pub fn listing(
+/// A line for each change and for each of its warnings. The only error is out of memory.
+pub fn change_list(
     alloc: Global,
     file: &str,
     source: &[u8],
     changes: &[Change],
-    refusals: &[Refusal],
 ) -> AllocResult<Vec<u8>>
-    ensures { IfOk result
-        (λ list. list.items ≡ listing file.now source.now changes.now refusals.now) }
+    ensures { IfOk result (λ list. list.items ≡ changes_part file.now source.now changes.now) }
 {
     let mut out = Vec::new(alloc);
     push_changes(&mut out, file, source, changes)?;
+    Ok(out)
+}
+
+/// What `check` would say of each token without a form. The only error is out of memory.
+pub fn refusal_list(
+    alloc: Global,
+    file: &str,
+    source: &[u8],
+    refusals: &[Refusal],
+) -> AllocResult<Vec<u8>>
+    ensures { IfOk result (λ list. list.items ≡ refusals_part file.now source.now refusals.now) }
+{
+    let mut out = Vec::new(alloc);
     push_refusals(&mut out, file, source, refusals)?;
     Ok(out)
 }

@@ -6,10 +6,11 @@ ghost use Rattle.lab_port_words.specs.Tables.{classes_of};
 ghost use Rattle.lab_port_rules.specs.Marks.{marks_of};
 ghost use Rattle.lab_port.specs.Texts.{flat_text};
 ghost use Rattle.lab_port.specs.Written.{with_changes, line_feeds, Stand};
-ghost use Rattle.lab_port.specs.Portings.{changes_at, changes_from, refusals_at, refusals_from, ported_text, changes_of, refusals_of};
+ghost use Rattle.lab_port.specs.Portings.{changes_at, changes_from, refusals_at, refusals_from, expansions_of, changes_of, refusals_of};
 
 use crate::text::{taken_of, text_by};
 use crate::written::text_of;
+use lab_port_macros::{Macro, macro_marks};
 use lab_port_rules::{Mark, Rule, marks_of};
 use lab_port_tokens::{Piece, pieces};
 use lab_port_words::{Lack, classes_of};
@@ -41,33 +42,74 @@ pub struct Refusal {
 /// What a source becomes.
 #[derive(Drop)]
 pub struct Ported {
-    /// The text, with as many line feeds as the source.
-    pub text: Vec<u8>,
-    /// The changes, in order.
+    /// The macros that are written out: their lines and their names, in order.
+    pub expansions: Vec<Change>,
+    /// The source with these changes.
+    pub middle: Vec<u8>,
+    /// The changes of that by all other rules, in order.
     pub changes: Vec<Change>,
-    /// The tokens that have no form, in order. They stand in the text as in the source.
+    /// That with these changes. Each text has as many line feeds as the source.
+    pub text: Vec<u8>,
+    /// The tokens of the middle text that have no form, in order. They stand in the text as they are.
     pub refusals: Vec<Refusal>,
 }
 
-/// What a source becomes by all rules. All that no change of the list covers is kept byte for byte, and each line
-/// feed stays. The only error is out of memory.
+/// What a source becomes by all rules: first its macros are written out, and then the other rules apply. All that no
+/// change of the lists covers is kept byte for byte, and each line feed stays. The only error is out of memory.
 pub fn port(alloc: Global, source: &[u8]) -> AllocResult<Ported>
-    ensures changes { IfOk result (λ ported. ported.changes.items ≡ changes_of source.now) }
-    ensures apart { IfOk result (λ ported. Stand source.now 0 ported.changes.items) }
+    ensures expansions { IfOk result (λ ported. ported.expansions.items ≡ expansions_of source.now) }
+    ensures expansions_apart { IfOk result (λ ported. Stand source.now 0 ported.expansions.items) }
+    ensures middle { IfOk result (λ ported. ported.middle.items
+        ≡ with_changes source.now 0 ported.expansions.items) }
+    ensures changes { IfOk result (λ ported. ported.changes.items ≡ changes_of ported.middle.items) }
+    ensures changes_apart { IfOk result (λ ported. Stand ported.middle.items 0 ported.changes.items) }
     ensures text { IfOk result (λ ported. ported.text.items
-        ≡ with_changes source.now 0 ported.changes.items) }
+        ≡ with_changes ported.middle.items 0 ported.changes.items) }
     ensures lines { IfOk result (λ ported. line_feeds ported.text.items ≡ line_feeds source.now) }
-    ensures refusals { IfOk result (λ ported. ported.refusals.items ≡ refusals_of source.now) }
+    ensures refusals { IfOk result
+        (λ ported. ported.refusals.items ≡ refusals_of ported.middle.items) }
+{
+    let expansions = expansions_of(alloc, source)?;
+    let middle = text_of(alloc, source, &expansions)?;
+    let ruled = ruled(alloc, &middle)?;
+    let text = text_of(alloc, &middle, &ruled.changes)?;
+    Ok(Ported {
+        expansions,
+        middle,
+        changes: ruled.changes,
+        text,
+        refusals: ruled.refusals,
+    })
+}
+
+// The changes that write out the macros of a source.
+fn expansions_of(alloc: Global, source: &[u8]) -> AllocResult<Vec<Change>>
+    ensures changes { IfOk result (λ changes. changes.items ≡ expansions_of source.now) }
+    ensures apart { IfOk result (λ changes. Stand source.now 0 changes.items) }
+{
+    let pieces = pieces(alloc, source)?;
+    let found = macro_marks(alloc, &pieces)?;
+    changes_of(alloc, &found.macros, &pieces, &found.marks)
+}
+
+// What the rules but that of macros find in a source.
+#[derive(Drop)]
+struct Ruled {
+    changes: Vec<Change>,
+    refusals: Vec<Refusal>,
+}
+
+// The changes of a source by all rules but that of macros, and its tokens without a form.
+fn ruled(alloc: Global, source: &[u8]) -> AllocResult<Ruled>
+    ensures changes { IfOk result (λ ruled. ruled.changes.items ≡ changes_of source.now) }
+    ensures apart { IfOk result (λ ruled. Stand source.now 0 ruled.changes.items) }
+    ensures refusals { IfOk result (λ ruled. ruled.refusals.items ≡ refusals_of source.now) }
 {
     let pieces = pieces(alloc, source)?;
     let marks = marks_for(alloc, &pieces)?;
-    let changes = changes_of(alloc, &pieces, &marks)?;
-    let refusals = refusals_of(alloc, &pieces, &marks)?;
-    let text = text_of(alloc, source, &changes)?;
-    Ok(Ported {
-        text,
-        changes,
-        refusals,
+    Ok(Ruled {
+        changes: changes_of(alloc, &[], &pieces, &marks)?,
+        refusals: refusals_of(alloc, &pieces, &marks)?,
     })
 }
 
@@ -82,48 +124,43 @@ fn marks_for(alloc: Global, pieces: &[Piece]) -> AllocResult<Vec<Mark>>
 }
 
 // The changes of some pieces by their marks.
-fn changes_of(alloc: Global, pieces: &[Piece], marks: &[Mark]) -> AllocResult<Vec<Change>>
+fn changes_of(
+    alloc: Global,
+    macros: &[Macro],
+    pieces: &[Piece],
+    marks: &[Mark],
+) -> AllocResult<Vec<Change>>
     requires { length marks.now ≡ length pieces.now }
-    ensures { IfOk result (λ changes. changes.items ≡ changes_from pieces.now marks.now) }
+    ensures { IfOk result (λ changes. changes.items ≡ changes_from macros.now pieces.now marks.now) }
 {
     let mut changes = Vec::new(alloc);
     for (i, piece) in pieces.iter().enumerate() {
-        push_change(alloc, &mut changes, marks[i], piece, &pieces[i + 1..])?;
+        if let Mark::Changed(rule, taken) = marks[i] {
+            let taken = taken_of(&pieces[i + 1..], taken);
+            changes.push(change_of(alloc, macros, rule, piece, taken)?)?;
+        }
     }
     Ok(changes)
 }
 
-// Appends the change of a piece, if it has one.
-fn push_change(
-    alloc: Global,
-    changes: &mut Vec<Change>,
-    mark: Mark,
-    piece: &Piece,
-    rest: &[Piece],
-) -> AllocResult<()>
-    ensures { OnOk result
-        (changes.new.items ≡ changes.old.items ++ changes_at mark piece.now rest.now) }
-{
-    let Mark::Changed(rule, taken) = mark else {
-        return Ok(());
-    };
-    let change = change_of(alloc, rule, piece, taken_of(rest, taken))?;
-    changes.push(change)?;
-    Ok(())
-}
-
 // The change that a rule makes of a piece and those that it takes.
-fn change_of(alloc: Global, rule: Rule, piece: &Piece, taken: &[Piece]) -> AllocResult<Change>
+fn change_of(
+    alloc: Global,
+    macros: &[Macro],
+    rule: Rule,
+    piece: &Piece,
+    taken: &[Piece],
+) -> AllocResult<Change>
     ensures { IfOk result (λ change. change ≡ record {
       at = piece.now.at;
       rule = rule;
       old = bytes_of (piece.now ∷ taken.now);
-      new = flat_text rule piece.now.text taken.now;
+      new = flat_text macros.now rule piece.now.text taken.now;
     }) }
 {
     let mut old = Vec::from_slice(alloc, piece.text.as_slice())?;
     push_bytes(&mut old, taken)?;
-    let new = text_by(alloc, rule, piece.text.as_slice(), taken)?;
+    let new = text_by(alloc, macros, rule, piece.text.as_slice(), taken)?;
     Ok(Change {
         at: piece.at,
         rule,

@@ -1,8 +1,9 @@
 //! What rules write.
 
 ghost use Rattle.std.specs.Prelude.{◌≡◌, ◌++◌, ◌∷◌, [], decimal, map, IfOk, OnOk, take};
-ghost use Rattle.lab_port.specs.Texts.{is_text, text_among, fixed_text, printed_text, new_text, flat_byte, flat_text};
+ghost use Rattle.lab_port.specs.Texts.{is_text, text_among, fixed_text, printed_text, macro_text, new_text, flat_byte, flat_text};
 
+use lab_port_macros::Macro;
 use lab_port_rules::Rule;
 use lab_port_tokens::{Piece, PieceKind};
 use lab_port_words::{push_format, push_line_text, push_number, push_without_suffix};
@@ -13,14 +14,15 @@ use std::alloc::Global;
 /// out of memory.
 pub(crate) fn text_by(
     alloc: Global,
+    macros: &[Macro],
     rule: Rule,
     text: &[u8],
     taken: &[Piece],
 ) -> AllocResult<Vec<u8>>
-    ensures { IfOk result (λ out. out.items ≡ flat_text rule text.now taken.now) }
+    ensures { IfOk result (λ out. out.items ≡ flat_text macros.now rule text.now taken.now) }
 {
     let mut new = Vec::new(alloc);
-    push_new(&mut new, rule, text, taken)?;
+    push_new(&mut new, macros, rule, text, taken)?;
     let flat = new.iter().map(flat_byte).collect(alloc)?;
     Ok(flat)
 }
@@ -48,15 +50,34 @@ pub(crate) fn taken_of(rest: &[Piece], taken: usize) -> &[Piece]
 }
 
 // Appends what a rule writes for a token with these bytes, and the pieces that it takes.
-fn push_new(out: &mut Vec<u8>, rule: Rule, text: &[u8], taken: &[Piece]) -> AllocResult<()>
-    ensures { OnOk result (out.new.items ≡ out.old.items ++ new_text rule text.now taken.now) }
+fn push_new(
+    out: &mut Vec<u8>,
+    macros: &[Macro],
+    rule: Rule,
+    text: &[u8],
+    taken: &[Piece],
+) -> AllocResult<()>
+    ensures { OnOk result
+        (out.new.items ≡ out.old.items ++ new_text macros.now rule text.now taken.now) }
 {
     match rule {
+        Rule::Use(number) => out.extend_from_slice(macro_text(number, macros)),
         Rule::Suffix | Rule::UnsignedSuffix => push_without_suffix(out, text),
         Rule::Character(number) => push_character(out, number),
         Rule::Format => push_format(out, text),
         Rule::Puts => push_printed(out, text_among(taken)),
         _ => out.extend_from_slice(fixed_text(rule)),
+    }
+}
+
+// The text of the macro with this number.
+fn macro_text(number: usize, macros: &[Macro]) -> &[u8]
+    ensures { result.now ≡ macro_text number macros.now }
+{
+    if number < macros.len() {
+        macros[number].text.as_slice()
+    } else {
+        b""
     }
 }
 

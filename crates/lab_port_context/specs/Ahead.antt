@@ -90,6 +90,7 @@ abbrev pub paren_at_sign : Call → ℕ → Sign → Paren
 paren_at_sign call depth signs.Open = paren_opens call depth
 paren_at_sign call depth signs.Close = paren_closes depth
 paren_at_sign call depth signs.Changes = paren_changes call depth
+paren_at_sign call depth signs.BitChanges = paren_changes call depth
 paren_at_sign call depth signs.Steps = paren_changes call depth
 paren_at_sign call depth signs.Semicolon = Fails
 paren_at_sign call depth signs.OpenBrace = Fails

@@ -240,7 +240,7 @@ fn paren_at_sign(call: Call, depth: usize, sign: Sign) -> Paren
     match sign {
         Sign::Open => paren_opens(call, depth),
         Sign::Close => paren_closes(depth),
-        Sign::Changes | Sign::Steps => paren_changes(call, depth),
+        Sign::Changes | Sign::BitChanges | Sign::Steps => paren_changes(call, depth),
         Sign::Semicolon | Sign::OpenBrace | Sign::CloseBrace | Sign::Hash => Paren::Fails,
         _ => paren_passes(depth),
     }

@@ -59,13 +59,23 @@ word_mark context rest rule = changed_if (has_form context rest) rule
 abbrev pub is_extern_place : Context → List Class → Bool
 is_extern_place context rest = (context.braces == 0 && has_form context rest) && is_open (run_end rest)
 
+-- in a function it has no form
+abbrev pub static_mark : Context → List Class → Mark
+static_mark context rest =
+    if context.braces == 0 then word_mark context rest rules.Storage else marks.Lacking lacks.Static
+
+-- of an object or in a function it has no form
+abbrev pub extern_mark : Context → List Class → Mark
+extern_mark context rest =
+    if is_extern_place context rest then marks.Changed rules.Storage 0 else marks.Lacking lacks.Extern
+
 -- what is left out of a declaration
 abbrev pub storage_mark : Storage → Context → List Class → Mark
 storage_mark storages.Plain context rest = word_mark context rest rules.Storage
 storage_mark storages.Auto context rest = word_mark context rest rules.Storage
 storage_mark storages.Volatile context rest = word_mark context rest rules.Volatile
-storage_mark storages.Static context rest = changed_if (context.braces == 0 && has_form context rest) rules.Storage
-storage_mark storages.Extern context rest = changed_if (is_extern_place context rest) rules.Storage
+storage_mark storages.Static context rest = static_mark context rest
+storage_mark storages.Extern context rest = extern_mark context rest
 storage_mark storages.Attribute context rest = changed_by (call_size calls.Any rest) rules.Attribute
 
 -- the first word of a type of whole numbers becomes `int`, and further ones are left out
@@ -161,6 +171,25 @@ is_before_address _ = false
 abbrev pub is_address : Context → Bool
 is_address context = is_before_address context.last
 
+-- an address, or an operator of bits
+abbrev pub and_mark : Context → Mark
+and_mark context = if is_address context then marks.Lacking lacks.Pointer else marks.Lacking lacks.Bits
+
+abbrev pub is_changes : Class → Bool
+is_changes (classes.Sign signs.Changes) = true
+is_changes _ = false
+
+abbrev pub is_close_bracket : Class → Bool
+is_close_bracket (classes.Sign signs.CloseBracket) = true
+is_close_bracket _ = false
+
+-- a `[`: a second index, no length, or a length of more than a token in the first declarator
+abbrev pub bracket_mark : Context → List Class → Mark
+bracket_mark context rest =
+    if is_close_bracket context.last then marks.Lacking lacks.Dimensions
+    else if is_close_bracket (nth_class 0 rest) then marks.Lacking lacks.Length
+    else lacking_if (is_type context.before && not (is_close_bracket (nth_class 1 rest))) lacks.Length
+
 abbrev pub text_mark : Format → Mark
 text_mark formats.Same = marks.Kept
 text_mark formats.Respelled = marks.Changed rules.Format 0
@@ -169,7 +198,12 @@ text_mark formats.Lacking = marks.Lacking lacks.Conversion
 abbrev pub sign_mark : Sign → Context → List Class → Mark
 sign_mark signs.Open context rest = cast_mark context rest
 sign_mark signs.Star context rest = lacking_if (is_pointer context) lacks.Pointer
-sign_mark signs.And context rest = lacking_if (is_address context) lacks.Pointer
+sign_mark signs.And context rest = and_mark context
+sign_mark signs.Point context rest = marks.Lacking lacks.Struct
+sign_mark signs.Bits context rest = marks.Lacking lacks.Bits
+sign_mark signs.BitChanges context rest = marks.Lacking lacks.Bits
+sign_mark signs.OpenBrace context rest = lacking_if (is_changes context.last) lacks.List
+sign_mark signs.OpenBracket context rest = bracket_mark context rest
 sign_mark signs.Arrow context rest = marks.Lacking lacks.Pointer
 sign_mark _ context rest = marks.Kept
 

@@ -66,9 +66,30 @@ include_rule facts context rest =
     else if defines_assert facts rest then rules.DefineAssert
     else rules.Include
 
+abbrev pub is_number : Class → Bool
+is_number (classes.Number form) = true
+is_number _ = false
+
+abbrev pub is_line_end : Class → Bool
+is_line_end classes.LineEnd = true
+is_line_end _ = false
+
+-- a macro is a name and a number
+abbrev pub is_number_macro : List Class → Bool
+is_number_macro rest = is_number (nth_class 2 rest) && is_line_end (nth_class 3 rest)
+
+-- another `#` line, which has this word behind its `#`
+abbrev pub hash_mark : Class → List Class → Mark
+hash_mark (classes.Hash hashes.Include) rest = lacking_if (not (is_less (nth_class 1 rest))) lacks.Header
+hash_mark (classes.Hash hashes.Define) rest = lacking_if (not (is_number_macro rest)) lacks.Macro
+hash_mark (classes.Hash hashes.Pragma) rest = marks.Kept
+hash_mark classes.LineEnd rest = marks.Kept
+hash_mark _ rest = marks.Lacking lacks.Condition
+
 abbrev pub include_mark : Facts → Context → List Class → Mark
 include_mark facts context rest =
-    if includes_header rest then changed_by (header_size 0 rest) (include_rule facts context rest) else marks.Kept
+    if includes_header rest then changed_by (header_size 0 rest) (include_rule facts context rest)
+    else hash_mark (nth_class 0 rest) rest
 
 abbrev pub is_schedule : Class → Bool
 is_schedule (classes.Clause words.Schedule) = true
@@ -114,7 +135,8 @@ collapses_one rest = (is_open (nth_class 0 rest) && is_one (nth_class 1 rest)) &
 
 abbrev pub collapse_mark : Context → List Class → Mark
 collapse_mark context rest =
-    if collapses_one rest then dropped_clause context (Some (size_to 2 0 rest)) rest else marks.Kept
+    if collapses_one rest then dropped_clause context (Some (size_to 2 0 rest)) rest
+    else lacking_if (context.parens == 0) lacks.Directive
 
 abbrev pub clause_mark : Clause → Context → List Class → Mark
 clause_mark words.Schedule context rest = marks.Kept
@@ -126,9 +148,16 @@ clause_mark words.Collapse context rest = collapse_mark context rest
 clause_mark words.Reduction context rest = marks.Kept
 clause_mark words.Lacking context rest = lacking_if (context.parens == 0) lacks.Directive
 
+-- an operator that no reduction has here
+abbrev pub operator_mark : Context → Mark
+operator_mark context = lacking_if (is_operator context) lacks.Directive
+
 -- a token of a directive line
 abbrev pub directive_mark : Context → Class → List Class → Mark
 directive_mark context (classes.Clause word) rest = clause_mark word context rest
 directive_mark context (classes.Storage storages.Auto) rest = changed_if (is_kind context) rules.Static
+directive_mark context (classes.Sign signs.Logic) rest = operator_mark context
+directive_mark context (classes.Sign signs.Bits) rest = operator_mark context
+directive_mark context (classes.Sign signs.And) rest = operator_mark context
 directive_mark context (classes.Sign signs.Minus) rest = changed_if (is_operator context) rules.Plus
 directive_mark context _ rest = marks.Kept

@@ -1,7 +1,7 @@
 //! Where the rules of declarations, numbers, texts and casts apply.
 
 ghost use Rattle.std.specs.Prelude.{◌≡◌, ◌≤◌, length, IfSome};
-ghost use Rattle.lab_port_rules.specs.Codes.{has_form, is_extern_place, begins_external, prototype_rule, word_mark, storage_mark, whole_type_mark, type_mark, number_mark, precedes_operand, ends_operand, cast_rule, cast_by, cast_mark, is_int, is_argument, has_parameters, main_mark, plain_word_mark, lacking_if, is_pointer, is_address, precedes_prefix, text_mark, sign_mark, character_mark, token_mark, may_begin_prototype, is_prototype_place, code_mark};
+ghost use Rattle.lab_port_rules.specs.Codes.{has_form, is_extern_place, begins_external, prototype_rule, word_mark, storage_mark, whole_type_mark, type_mark, number_mark, precedes_operand, ends_operand, cast_rule, cast_by, cast_mark, is_int, is_argument, has_parameters, main_mark, plain_word_mark, lacking_if, and_mark, is_changes, is_close_bracket, bracket_mark, static_mark, extern_mark, is_pointer, is_address, precedes_prefix, text_mark, sign_mark, character_mark, token_mark, may_begin_prototype, is_prototype_place, code_mark};
 
 use crate::library::{begins_statement, changed_by, changed_if, library_mark};
 use crate::mark::Mark;
@@ -106,14 +106,31 @@ fn storage_mark(word: Storage, context: Context, rest: &[Class]) -> Mark
         Storage::Plain => word_mark(context, rest, Rule::Storage),
         Storage::Auto => word_mark(context, rest, Rule::Storage),
         Storage::Volatile => word_mark(context, rest, Rule::Volatile),
-        Storage::Static => {
-            changed_if(
-                context.braces == 0 && has_form(context, rest),
-                Rule::Storage,
-            )
-        }
-        Storage::Extern => changed_if(is_extern_place(context, rest), Rule::Storage),
+        Storage::Static => static_mark(context, rest),
+        Storage::Extern => extern_mark(context, rest),
         Storage::Attribute => changed_by(call_size(Call::Any, rest), Rule::Attribute),
+    }
+}
+
+// A `static`: in a function it has no form.
+fn static_mark(context: Context, rest: &[Class]) -> Mark
+    ensures { result ≡ static_mark context rest.now }
+{
+    if context.braces == 0 {
+        word_mark(context, rest, Rule::Storage)
+    } else {
+        Mark::Lacking(Lack::Static)
+    }
+}
+
+// An `extern`: of an object or in a function it has no form.
+fn extern_mark(context: Context, rest: &[Class]) -> Mark
+    ensures { result ≡ extern_mark context rest.now }
+{
+    if is_extern_place(context, rest) {
+        Mark::Changed(Rule::Storage, 0)
+    } else {
+        Mark::Lacking(Lack::Extern)
     }
 }
 
@@ -172,8 +189,12 @@ fn sign_mark(sign: Sign, context: Context, rest: &[Class]) -> Mark
     match sign {
         Sign::Open => cast_mark(context, rest),
         Sign::Star => lacking_if(is_pointer(context), Lack::Pointer),
-        Sign::And => lacking_if(is_address(context), Lack::Pointer),
+        Sign::And => and_mark(context),
         Sign::Arrow => Mark::Lacking(Lack::Pointer),
+        Sign::Point => Mark::Lacking(Lack::Struct),
+        Sign::Bits | Sign::BitChanges => Mark::Lacking(Lack::Bits),
+        Sign::OpenBrace => lacking_if(is_changes(context.last), Lack::List),
+        Sign::OpenBracket => bracket_mark(context, rest),
         _ => Mark::Kept,
     }
 }
@@ -187,6 +208,49 @@ pub(crate) fn lacking_if(lacks: bool, lack: Lack) -> Mark
     } else {
         Mark::Kept
     }
+}
+
+// An `&`: an address, or an operator of bits.
+fn and_mark(context: Context) -> Mark
+    ensures { result ≡ and_mark context }
+{
+    if is_address(context) {
+        Mark::Lacking(Lack::Pointer)
+    } else {
+        Mark::Lacking(Lack::Bits)
+    }
+}
+
+fn is_changes(class: Class) -> bool
+    ensures { result ≡ is_changes class }
+{
+    match class {
+        Class::Sign(Sign::Changes) => true,
+        _ => false,
+    }
+}
+
+fn is_close_bracket(class: Class) -> bool
+    ensures { result ≡ is_close_bracket class }
+{
+    match class {
+        Class::Sign(Sign::CloseBracket) => true,
+        _ => false,
+    }
+}
+
+// A `[`: a second index, no length, or a length of more than a token in the first declarator.
+fn bracket_mark(context: Context, rest: &[Class]) -> Mark
+    ensures { result ≡ bracket_mark context rest.now }
+{
+    if is_close_bracket(context.last) {
+        return Mark::Lacking(Lack::Dimensions);
+    }
+    if is_close_bracket(nth_class(0, rest)) {
+        return Mark::Lacking(Lack::Length);
+    }
+    let one = is_close_bracket(nth_class(1, rest));
+    lacking_if(is_type(context.before) && !one, Lack::Length)
 }
 
 // Whether a star there declares a pointer.

@@ -1,7 +1,7 @@
 //! Where the rules of `#` lines apply.
 
 ghost use Rattle.std.specs.Prelude.{◌≡◌, ◌≤◌, length, IfSome};
-ghost use Rattle.lab_port_rules.specs.Directives.{is_greater, is_less, is_include, is_header, header_size, includes_header, defines_abort, defines_assert, include_rule, include_mark, is_schedule, is_reduction, is_kind, is_operator, with_comma, clause_by, dropped_clause, is_one, collapses_one, collapse_mark, clause_mark, directive_mark};
+ghost use Rattle.lab_port_rules.specs.Directives.{is_greater, is_less, is_include, is_header, header_size, includes_header, defines_abort, defines_assert, include_rule, hash_mark, is_number_macro, is_number, is_line_end, operator_mark, include_mark, is_schedule, is_reduction, is_kind, is_operator, with_comma, clause_by, dropped_clause, is_one, collapses_one, collapse_mark, clause_mark, directive_mark};
 
 use crate::code::lacking_if;
 use crate::library::{changed_by, changed_if};
@@ -18,9 +18,47 @@ pub(crate) fn include_mark(facts: Facts, context: Context, rest: &[Class]) -> Ma
     ensures { result ≡ include_mark facts context rest.now }
 {
     if !includes_header(rest) {
-        return Mark::Kept;
+        return hash_mark(nth_class(0, rest), rest);
     }
     changed_by(header_size(rest), include_rule(facts, context, rest))
+}
+
+// Another `#` line, which has this word behind its `#`.
+fn hash_mark(word: Class, rest: &[Class]) -> Mark
+    ensures { result ≡ hash_mark word rest.now }
+{
+    match word {
+        Class::Hash(Hash::Include) => lacking_if(!is_less(nth_class(1, rest)), Lack::Header),
+        Class::Hash(Hash::Define) => lacking_if(!is_number_macro(rest), Lack::Macro),
+        Class::Hash(Hash::Pragma) => Mark::Kept,
+        Class::LineEnd => Mark::Kept,
+        _ => Mark::Lacking(Lack::Condition),
+    }
+}
+
+// Whether a macro is a name and a number.
+fn is_number_macro(rest: &[Class]) -> bool
+    ensures { result ≡ is_number_macro rest.now }
+{
+    is_number(nth_class(2, rest)) && is_line_end(nth_class(3, rest))
+}
+
+fn is_number(class: Class) -> bool
+    ensures { result ≡ is_number class }
+{
+    match class {
+        Class::Number(_) => true,
+        _ => false,
+    }
+}
+
+fn is_line_end(class: Class) -> bool
+    ensures { result ≡ is_line_end class }
+{
+    match class {
+        Class::LineEnd => true,
+        _ => false,
+    }
 }
 
 // The rule of an include.
@@ -115,8 +153,16 @@ pub(crate) fn directive_mark(context: Context, class: Class, rest: &[Class]) -> 
         Class::Clause(word) => clause_mark(word, context, rest),
         Class::Storage(Storage::Auto) => changed_if(is_kind(context), Rule::Static),
         Class::Sign(Sign::Minus) => changed_if(is_operator(context), Rule::Plus),
+        Class::Sign(Sign::Logic | Sign::Bits | Sign::And) => operator_mark(context),
         _ => Mark::Kept,
     }
+}
+
+// An operator that no reduction has here.
+fn operator_mark(context: Context) -> Mark
+    ensures { result ≡ operator_mark context }
+{
+    lacking_if(is_operator(context), Lack::Directive)
 }
 
 // The mark of a word of a directive.
@@ -226,7 +272,7 @@ fn collapse_mark(context: Context, rest: &[Class]) -> Mark
     ensures { result ≡ collapse_mark context rest.now }
 {
     if !collapses_one(rest) {
-        return Mark::Kept;
+        return lacking_if(context.parens == 0, Lack::Directive);
     }
     dropped_clause(context, Some(size_to(2, rest)), rest)
 }

@@ -7,6 +7,10 @@ use lab_port_words::TypeWord;
 pub enum Rule {
     /// `include`: a header that is left out.
     Include,
+    /// `macro`: the line of a macro that is written out.
+    Define,
+    /// `macro`: the name of a macro that is written out, which has this number.
+    Use(usize),
     /// `storage`: a word of storage, or a prototype of the library, that is left out.
     Storage,
     /// `storage`: an `__attribute__` that is left out.

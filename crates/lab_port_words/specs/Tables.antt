@@ -8,7 +8,7 @@ use Rattle.lab_port_words.specs.declared.class.Class.{Class}
 use Rattle.lab_port_words.specs.declared.class.Class.TheVariants as classes
 use Rattle.lab_port_words.specs.declared.class.Word.TheVariants as words
 use Rattle.lab_port_words.specs.declared.class.Sign.TheVariants as signs
-use Rattle.lab_port_words.specs.declared.table.TheConstants.{WORDS, SIGNS}
+use Rattle.lab_port_words.specs.declared.table.TheConstants.{WORDS, LIBRARY, SIGNS}
 use Rattle.lab_port_words.specs.Texts.{form_of, format_of, character_number, has_one_of}
 
 -- the class of the first row of this name, or else this one
@@ -16,9 +16,13 @@ abbrev pub class_in : List (List ℕ × Class) → Class → List ℕ → Class
 class_in [] other name = other
 class_in (row ∷ rows) other name = if bytes_eq row.0 name then row.1 else class_in rows other name
 
--- by the table WORDS
+-- by the table LIBRARY
+abbrev pub library_class : List ℕ → Class
+library_class name = class_in (map (λ row. (row.0.now, row.1)) LIBRARY) (classes.Word words.Other) name
+
+-- by the table WORDS, or else by that of the library
 abbrev pub word_class : List ℕ → Class
-word_class name = class_in (map (λ row. (row.0.now, row.1)) WORDS) (classes.Word words.Other) name
+word_class name = class_in (map (λ row. (row.0.now, row.1)) WORDS) (library_class name) name
 
 -- by the table SIGNS
 abbrev pub sign_class : List ℕ → Class

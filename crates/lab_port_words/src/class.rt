@@ -61,6 +61,12 @@ pub enum Sign {
     Star,
     /// `&`
     And,
+    /// `.`
+    Point,
+    /// `&&` or `||`
+    Logic,
+    /// `<<`, `>>`, `|`, `^` or `~`
+    Bits,
     /// `-`
     Minus,
     /// `<`
@@ -69,8 +75,10 @@ pub enum Sign {
     Greater,
     /// `->`
     Arrow,
-    /// `=` or a compound assignment.
+    /// `=` or a compound assignment of arithmetic.
     Changes,
+    /// A compound assignment of bits.
+    BitChanges,
     /// `++` or `--`
     Steps,
     /// Any other.
@@ -167,8 +175,36 @@ pub enum Lack {
     Pointer,
     /// `goto`, `asm`, `_Generic`
     Statement,
-    /// `struct`
+    /// `struct`, or `.` of a member
     Struct,
+    /// `enum`
+    Enumeration,
+    /// `typedef`
+    Typedef,
+    /// `switch`
+    Switch,
+    /// `sizeof`
+    Size,
+    /// `static` in a function.
+    Static,
+    /// `extern` of an object, or in a function.
+    Extern,
+    /// A list of values.
+    List,
+    /// A second index.
+    Dimensions,
+    /// A length that is no number and no macro.
+    Length,
+    /// An operator of bits.
+    Bits,
+    /// A macro that is no number.
+    Macro,
+    /// A condition of `cpp`, or another of its lines.
+    Condition,
+    /// An include of the program's own.
+    Header,
+    /// Another function of the library.
+    Call,
     /// `union`
     Union,
     /// An `exit` outside of `main`.

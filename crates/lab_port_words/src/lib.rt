@@ -1,7 +1,7 @@
 //! omplab port: what a piece of a C source is to the rules: its class, by a table of words; texts that rules write.
 //!
-//! `class_of` says the class of a piece. Rules look at classes alone, so all names that they know stand in one
-//! table, `WORDS`. `text` has what a number, a character or a format of `printf` becomes.
+//! `class_of` says the class of a piece. Rules look at classes alone, so all names that they know stand in two
+//! tables, `WORDS` and `LIBRARY`. `text` has what a number, a character or a format of `printf` becomes.
 //!
 //! - A new word is a row of `WORDS`, and perhaps a variant of `Class`.
 #![tactic(auto)]

@@ -2,7 +2,7 @@
 
 ghost use Rattle.std.specs.Prelude.{◌≡◌, map, IfOk};
 ghost use Rattle.std.specs.Str.{bytes_eq};
-ghost use Rattle.lab_port_words.specs.Tables.{class_in, word_class, sign_class, gap_class, text_class, class_by, class_of, classes_of};
+ghost use Rattle.lab_port_words.specs.Tables.{class_in, library_class, word_class, sign_class, gap_class, text_class, class_by, class_of, classes_of};
 
 use crate::class::{Class, Clause, Hash, Lack, Library, Sign, Storage, TypeWord, Word};
 use crate::text::{character_number, form_of, format_of, has_one_of};
@@ -13,7 +13,7 @@ use std::alloc::Global;
 // A name, and the class that it has.
 type Row = (&'static [u8], Class);
 
-const WORDS: [Row; 147] = [
+const WORDS: [Row; 101] = [
     (b"int", Class::Type(TypeWord::Int)),
     (b"signed", Class::Type(TypeWord::Signed)),
     (b"__signed__", Class::Type(TypeWord::Signed)),
@@ -54,6 +54,71 @@ const WORDS: [Row; 147] = [
     (b"static", Class::Storage(Storage::Static)),
     (b"extern", Class::Storage(Storage::Extern)),
     (b"__attribute__", Class::Storage(Storage::Attribute)),
+    (b"schedule", Class::Clause(Clause::Schedule)),
+    (b"guided", Class::Clause(Clause::Guided)),
+    (b"runtime", Class::Clause(Clause::Runtime)),
+    (b"untied", Class::Clause(Clause::Bare)),
+    (b"mergeable", Class::Clause(Clause::Bare)),
+    (b"acquire", Class::Clause(Clause::Bare)),
+    (b"release", Class::Clause(Clause::Bare)),
+    (b"acq_rel", Class::Clause(Clause::Bare)),
+    (b"proc_bind", Class::Clause(Clause::Called)),
+    (b"priority", Class::Clause(Clause::Called)),
+    (b"hint", Class::Clause(Clause::Called)),
+    (b"affinity", Class::Clause(Clause::Called)),
+    (b"allocate", Class::Clause(Clause::Called)),
+    (b"collapse", Class::Clause(Clause::Collapse)),
+    (b"reduction", Class::Clause(Clause::Reduction)),
+    (b"if", Class::Clause(Clause::Lacking)),
+    (b"lastprivate", Class::Clause(Clause::Lacking)),
+    (b"linear", Class::Clause(Clause::Lacking)),
+    (b"ordered", Class::Clause(Clause::Lacking)),
+    (b"depend", Class::Clause(Clause::Lacking)),
+    (b"doacross", Class::Clause(Clause::Lacking)),
+    (b"copyprivate", Class::Clause(Clause::Lacking)),
+    (b"copyin", Class::Clause(Clause::Lacking)),
+    (b"threadprivate", Class::Clause(Clause::Lacking)),
+    (b"detach", Class::Clause(Clause::Lacking)),
+    (b"in_reduction", Class::Clause(Clause::Lacking)),
+    (b"task_reduction", Class::Clause(Clause::Lacking)),
+    (b"capture", Class::Clause(Clause::Lacking)),
+    (b"compare", Class::Clause(Clause::Lacking)),
+    (b"taskloop", Class::Clause(Clause::Lacking)),
+    (b"simd", Class::Clause(Clause::Lacking)),
+    (b"target", Class::Clause(Clause::Lacking)),
+    (b"teams", Class::Clause(Clause::Lacking)),
+    (b"distribute", Class::Clause(Clause::Lacking)),
+    (b"cancel", Class::Clause(Clause::Lacking)),
+    (b"cancellation", Class::Clause(Clause::Lacking)),
+    (b"declare", Class::Clause(Clause::Lacking)),
+    (b"include", Class::Hash(Hash::Include)),
+    (b"define", Class::Hash(Hash::Define)),
+    (b"pragma", Class::Hash(Hash::Pragma)),
+    (b"omp", Class::Hash(Hash::Omp)),
+    (b"stdio", Class::Hash(Hash::Stdio)),
+    (b"stdlib", Class::Hash(Hash::Stdlib)),
+    (b"return", Class::Word(Word::Return)),
+    (b"else", Class::Word(Word::Branch)),
+    (b"do", Class::Word(Word::Branch)),
+    (b"main", Class::Word(Word::Main)),
+    (b"argc", Class::Word(Word::Argument)),
+    (b"argv", Class::Word(Word::Argument)),
+    (b"goto", Class::Word(Word::Lacking(Lack::Statement))),
+    (b"asm", Class::Word(Word::Lacking(Lack::Statement))),
+    (b"__asm__", Class::Word(Word::Lacking(Lack::Statement))),
+    (b"_Generic", Class::Word(Word::Lacking(Lack::Statement))),
+    (b"union", Class::Word(Word::Lacking(Lack::Union))),
+    (b"enum", Class::Word(Word::Lacking(Lack::Enumeration))),
+    (b"typedef", Class::Word(Word::Lacking(Lack::Typedef))),
+    (b"switch", Class::Word(Word::Lacking(Lack::Switch))),
+    (b"sizeof", Class::Word(Word::Lacking(Lack::Size))),
+    (b"struct", Class::Word(Word::Lacking(Lack::Struct))),
+    (b"omp_lock_t", Class::Word(Word::Lacking(Lack::Lock))),
+    (b"omp_nest_lock_t", Class::Word(Word::Lacking(Lack::Lock))),
+];
+
+// Names of the library.
+const LIBRARY: [Row; 69] = [
     (b"abort", Class::Library(Library::Abort)),
     (b"assert", Class::Library(Library::Assert)),
     (b"exit", Class::Library(Library::Exit)),
@@ -135,65 +200,27 @@ const WORDS: [Row; 147] = [
         Class::Library(Library::Lacking(Lack::Floating)),
     ),
     (b"atoi", Class::Library(Library::Lacking(Lack::Input))),
-    (b"schedule", Class::Clause(Clause::Schedule)),
-    (b"guided", Class::Clause(Clause::Guided)),
-    (b"runtime", Class::Clause(Clause::Runtime)),
-    (b"untied", Class::Clause(Clause::Bare)),
-    (b"mergeable", Class::Clause(Clause::Bare)),
-    (b"acquire", Class::Clause(Clause::Bare)),
-    (b"release", Class::Clause(Clause::Bare)),
-    (b"acq_rel", Class::Clause(Clause::Bare)),
-    (b"proc_bind", Class::Clause(Clause::Called)),
-    (b"priority", Class::Clause(Clause::Called)),
-    (b"hint", Class::Clause(Clause::Called)),
-    (b"affinity", Class::Clause(Clause::Called)),
-    (b"allocate", Class::Clause(Clause::Called)),
-    (b"collapse", Class::Clause(Clause::Collapse)),
-    (b"reduction", Class::Clause(Clause::Reduction)),
-    (b"lastprivate", Class::Clause(Clause::Lacking)),
-    (b"linear", Class::Clause(Clause::Lacking)),
-    (b"ordered", Class::Clause(Clause::Lacking)),
-    (b"depend", Class::Clause(Clause::Lacking)),
-    (b"doacross", Class::Clause(Clause::Lacking)),
-    (b"copyprivate", Class::Clause(Clause::Lacking)),
-    (b"copyin", Class::Clause(Clause::Lacking)),
-    (b"threadprivate", Class::Clause(Clause::Lacking)),
-    (b"detach", Class::Clause(Clause::Lacking)),
-    (b"in_reduction", Class::Clause(Clause::Lacking)),
-    (b"task_reduction", Class::Clause(Clause::Lacking)),
-    (b"capture", Class::Clause(Clause::Lacking)),
-    (b"compare", Class::Clause(Clause::Lacking)),
-    (b"taskloop", Class::Clause(Clause::Lacking)),
-    (b"simd", Class::Clause(Clause::Lacking)),
-    (b"target", Class::Clause(Clause::Lacking)),
-    (b"teams", Class::Clause(Clause::Lacking)),
-    (b"distribute", Class::Clause(Clause::Lacking)),
-    (b"cancel", Class::Clause(Clause::Lacking)),
-    (b"cancellation", Class::Clause(Clause::Lacking)),
-    (b"declare", Class::Clause(Clause::Lacking)),
-    (b"include", Class::Hash(Hash::Include)),
-    (b"define", Class::Hash(Hash::Define)),
-    (b"pragma", Class::Hash(Hash::Pragma)),
-    (b"omp", Class::Hash(Hash::Omp)),
-    (b"stdio", Class::Hash(Hash::Stdio)),
-    (b"stdlib", Class::Hash(Hash::Stdlib)),
-    (b"return", Class::Word(Word::Return)),
-    (b"else", Class::Word(Word::Branch)),
-    (b"do", Class::Word(Word::Branch)),
-    (b"main", Class::Word(Word::Main)),
-    (b"argc", Class::Word(Word::Argument)),
-    (b"argv", Class::Word(Word::Argument)),
-    (b"goto", Class::Word(Word::Lacking(Lack::Statement))),
-    (b"asm", Class::Word(Word::Lacking(Lack::Statement))),
-    (b"__asm__", Class::Word(Word::Lacking(Lack::Statement))),
-    (b"_Generic", Class::Word(Word::Lacking(Lack::Statement))),
-    (b"union", Class::Word(Word::Lacking(Lack::Union))),
-    (b"struct", Class::Word(Word::Lacking(Lack::Struct))),
-    (b"omp_lock_t", Class::Word(Word::Lacking(Lack::Lock))),
-    (b"omp_nest_lock_t", Class::Word(Word::Lacking(Lack::Lock))),
+    (b"memset", Class::Library(Library::Lacking(Lack::Call))),
+    (b"memcpy", Class::Library(Library::Lacking(Lack::Call))),
+    (b"memmove", Class::Library(Library::Lacking(Lack::Call))),
+    (b"strlen", Class::Library(Library::Lacking(Lack::Call))),
+    (b"strcmp", Class::Library(Library::Lacking(Lack::Call))),
+    (b"strcpy", Class::Library(Library::Lacking(Lack::Call))),
+    (b"sprintf", Class::Library(Library::Lacking(Lack::Call))),
+    (b"snprintf", Class::Library(Library::Lacking(Lack::Call))),
+    (b"putchar", Class::Library(Library::Lacking(Lack::Call))),
+    (b"putc", Class::Library(Library::Lacking(Lack::Call))),
+    (b"fputs", Class::Library(Library::Lacking(Lack::Call))),
+    (b"time", Class::Library(Library::Lacking(Lack::Call))),
+    (b"clock", Class::Library(Library::Lacking(Lack::Call))),
+    (b"abs", Class::Library(Library::Lacking(Lack::Call))),
+    (b"qsort", Class::Library(Library::Lacking(Lack::Call))),
+    (b"free", Class::Library(Library::Lacking(Lack::Call))),
+    (b"pow", Class::Library(Library::Lacking(Lack::Call))),
+    (b"sqrt", Class::Library(Library::Lacking(Lack::Call))),
 ];
 
-const SIGNS: [Row; 29] = [
+const SIGNS: [Row; 37] = [
     (b"(", Class::Sign(Sign::Open)),
     (b")", Class::Sign(Sign::Close)),
     (b"{", Class::Sign(Sign::OpenBrace)),
@@ -206,6 +233,14 @@ const SIGNS: [Row; 29] = [
     (b"#", Class::Sign(Sign::Hash)),
     (b"*", Class::Sign(Sign::Star)),
     (b"&", Class::Sign(Sign::And)),
+    (b".", Class::Sign(Sign::Point)),
+    (b"&&", Class::Sign(Sign::Logic)),
+    (b"||", Class::Sign(Sign::Logic)),
+    (b"<<", Class::Sign(Sign::Bits)),
+    (b">>", Class::Sign(Sign::Bits)),
+    (b"|", Class::Sign(Sign::Bits)),
+    (b"^", Class::Sign(Sign::Bits)),
+    (b"~", Class::Sign(Sign::Bits)),
     (b"-", Class::Sign(Sign::Minus)),
     (b"<", Class::Sign(Sign::Less)),
     (b">", Class::Sign(Sign::Greater)),
@@ -218,11 +253,11 @@ const SIGNS: [Row; 29] = [
     (b"*=", Class::Sign(Sign::Changes)),
     (b"/=", Class::Sign(Sign::Changes)),
     (b"%=", Class::Sign(Sign::Changes)),
-    (b"&=", Class::Sign(Sign::Changes)),
-    (b"|=", Class::Sign(Sign::Changes)),
-    (b"^=", Class::Sign(Sign::Changes)),
-    (b"<<=", Class::Sign(Sign::Changes)),
-    (b">>=", Class::Sign(Sign::Changes)),
+    (b"&=", Class::Sign(Sign::BitChanges)),
+    (b"|=", Class::Sign(Sign::BitChanges)),
+    (b"^=", Class::Sign(Sign::BitChanges)),
+    (b"<<=", Class::Sign(Sign::BitChanges)),
+    (b">>=", Class::Sign(Sign::BitChanges)),
 ];
 
 // Whether a row has this name.
@@ -248,7 +283,14 @@ fn class_in(rows: &[Row], other: Class, name: &[u8]) -> Class
 fn word_class(name: &[u8]) -> Class
     ensures { result ≡ word_class name.now }
 {
-    class_in(&WORDS, Class::Word(Word::Other), name)
+    class_in(&WORDS, library_class(name), name)
+}
+
+// The class of a name of the library, or of another word.
+fn library_class(name: &[u8]) -> Class
+    ensures { result ≡ library_class name.now }
+{
+    class_in(&LIBRARY, Class::Word(Word::Other), name)
 }
 
 // The class of a punctuator.
