@@ -1,5 +1,5 @@
 -- Two workers whose next steps access one variable, and what tells two such pairs apart.
-use Rattle.std.specs.Prelude.{◌≡◌, ◌≢◌, ℕ, ◌<◌, Bool, true, false, cond, not, nat_eq, nat_lt, ◌&&◌, ◌||◌, is_some}
+use Rattle.std.specs.Prelude.{◌≡◌, ◌≢◌, ℕ, ◌<◌, Bool, true, false, cond, nat_eq, nat_lt, ◌&&◌, ◌||◌, is_some}
 use Rattle.std.specs.Prelude.{Option, None, Some, List, Contains}
 use Rattle.om_code.specs.declared.instruction.Instr.{Instr}
 use Rattle.om_code.specs.declared.instruction.Instr.TheVariants as instr
@@ -19,6 +19,8 @@ use Rattle.om_state.specs.declared.step.Label.{Label}
 use Rattle.om_state.specs.Rules.{Rules, step_at, next_state}
 use Rattle.om_state.specs.State.{State}
 use Rattle.om_task.specs.Rules.{rules_of}
+use Rattle.lab_explore_closed.specs.declared.found.AccessKind.{AccessKind}
+use Rattle.lab_explore_closed.specs.declared.found.AccessKind.TheVariants.{Reads, Writes, Ends}
 use Rattle.lab_explore_closed.specs.declared.found.Pair.{Pair}
 use Rattle.lab_explore_closed.specs.declared.found.Place.{Place}
 use Rattle.lab_explore_closed.specs.Endings.{control_at}
@@ -71,24 +73,41 @@ pub record IsRace (program : Raw) (workers : ℕ) (s : State) (a b : Label) (x y
   pub plain : are_atomic_together (instruction_of program (control_at s a.worker) a.choice)
       (instruction_of program (control_at s b.worker) b.choice) ≡ false
 
-abbrev pub is_write : Mode → Bool
-is_write mode.Write = true
-is_write _ = false
+-- C17 6.2.4: an instruction that ends the lives of variables, or makes one unset where it is declared
+abbrev pub ends_lives : Option Instr → Bool
+ends_lives (Some (instr.Clear slot)) = true
+ends_lives (Some instr.Return) = true
+ends_lives (Some instr.ReturnNothing) = true
+ends_lives (Some instr.Leave) = true
+ends_lives (Some instr.TaskEnd) = true
+ends_lives _ = false
+
+-- how an instruction accesses a variable, by the mode
+abbrev pub kind_of : Option Instr → Mode → AccessKind
+kind_of i mode.Write = cond (ends_lives i) Ends Writes
+kind_of i _ = Reads
+
+abbrev pub kind_number : AccessKind → ℕ
+kind_number Reads = 0
+kind_number Writes = 1
+kind_number Ends = 2
 
 -- how a step accesses an object
-abbrev pub place_at : Rules → State → Label → Access → Place
-place_at r s l a = record { line = (step_at r s l).line; writes = is_write a.mode }
+abbrev pub place_at : Raw → ℕ → State → Label → Access → Place
+place_at program workers s l a = record {
+  line = (step_at (rules_of program workers) s l).line;
+  kind = kind_of (instruction_of program (control_at s l.worker) l.choice) a.mode;
+}
 
--- a place is behind another one: its line is greater, or it alone writes
+-- a place is behind another one: its line is greater, or of one line its kind is
 abbrev pub is_behind : Place → Place → Bool
-is_behind p q = nat_lt q.line p.line || (nat_eq q.line p.line && (p.writes && not q.writes))
+is_behind p q = nat_lt q.line p.line || (nat_eq q.line p.line && nat_lt (kind_number q.kind) (kind_number p.kind))
 
 -- two places, so ordered that a pair and its mirror are one
 abbrev pub pair_of : Place → Place → objects.Obj → Pair
 pair_of p q object = cond (is_behind p q) (record { first = q; second = p; object = object })
     (record { first = p; second = q; object = object })
 
--- what is told of a race: both lines, whether each writes, and the object
+-- what is told of a race: both lines, how each accesses it, and the object
 abbrev pub pair_at : Raw → ℕ → State → Label → Label → Access → Access → Pair
-pair_at program workers s a b x y = pair_of (place_at (rules_of program workers) s a x)
-    (place_at (rules_of program workers) s b y) x.object
+pair_at program workers s a b x y = pair_of (place_at program workers s a x) (place_at program workers s b y) x.object

@@ -9,7 +9,7 @@ abbrev pub AreOf : ℕ → List Label → Type 0
 AreOf workers [] = Unit {0}
 AreOf workers (l ∷ ls) = (l.worker < workers) × AreOf workers ls
 
--- a run of so many workers leads from the start to a state: these steps can be made in turn, and it is what comes of them
+-- a run of so many workers leads from the start to a state: these steps can be made in turn, and this comes of them
 pub record Leads (r : Rules) (workers : ℕ) (ls : List Label) (s : State) : Type 0 where
   pub own : AreOf workers ls
   pub replayed : replay r ls ≡ Some s

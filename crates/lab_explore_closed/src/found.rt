@@ -51,16 +51,27 @@ pub struct FoundFault {
     pub met: Met,
 }
 
-/// How a worker's next step accesses a variable.
+/// How a step accesses a variable.
+#[derive(Clone, Copy, PartialEq, Eq)]
+pub enum AccessKind {
+    /// It reads its value.
+    Reads,
+    /// It may put a value.
+    Writes,
+    /// It ends its life, or makes it unset where it is declared.
+    Ends,
+}
+
+/// A worker's next step, and how it accesses a variable.
 #[derive(Clone, Copy)]
 pub struct Place {
     /// The line in the source of the step, from 1.
     pub line: u32,
-    /// Whether it may write.
-    pub writes: bool,
+    pub kind: AccessKind,
 }
 
-/// Two accesses of one cell or global that meet: that of the lesser line first, and a read before a write.
+/// Two accesses of one cell or global that meet. That of the lesser line stands first; of one line, that which reads
+/// stands before that which writes, and this before that which ends the life of the variable.
 #[derive(Clone, Copy)]
 pub struct Pair {
     pub first: Place,

@@ -15,5 +15,6 @@ pub mod found;
 pub mod laws;
 
 pub use found::{
-    Ending, Explored, FoundEnd, FoundFault, FoundRace, Limits, Met, Pair, Place, Verdict, Wait,
+    AccessKind, Ending, Explored, FoundEnd, FoundFault, FoundRace, Limits, Met, Pair, Place,
+    Verdict, Wait,
 };
