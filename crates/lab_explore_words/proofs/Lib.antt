@@ -1,0 +1,4 @@
+pub mod Loops
+mod NumbersApart
+mod ControlsApart
+mod ValuesApart

@@ -1,0 +1,4 @@
+pub mod Lists
+pub mod Words
+pub mod Values
+pub mod Laws
