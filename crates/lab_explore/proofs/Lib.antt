@@ -1,0 +1,2 @@
+pub mod TodoLemmas
+pub mod WayLemmas

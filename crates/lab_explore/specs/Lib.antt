@@ -1,0 +1,3 @@
+pub mod Todos
+pub mod Notes
+pub mod Searches

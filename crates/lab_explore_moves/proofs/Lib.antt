@@ -1,0 +1,3 @@
+pub mod LetterLemmas
+pub mod EndingLemmas
+pub mod AttemptLemmas
