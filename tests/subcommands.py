@@ -3,7 +3,7 @@
 
 LAB is the program `omplab`. Each row says what is tried; the last line counts the rows, and the status is 1 where one of them
 is wrong. What is wanted stands in each row. Which seed finds a bad schedule, only the generator says.
-Of `draw` there are refusals alone: the run that is stored in crates/omplab draws a session, and pages.py nine more.
+Of `draw` no whole page is compared: the run that is stored in crates/omplab draws a session, and pages.py nine more.
 It needs Python 3 with its standard library alone.
 """
 import os, subprocess, sys, tempfile
@@ -97,7 +97,7 @@ HUNT = ["hunt", "--seeds", "20", "--steps", "1000"]
 # error.
 ROWS = [
     ("a source is accepted", ["check"], RACE, "", 0, "a.c: accepted\n", ""),
-    ("a team is smaller than asked for", ["check"], THREE, "", 0, "a.c: accepted\na.c:3:22: note: with --threads 2 this team has at most 2\n", ""),
+    ("a team is smaller than asked for", ["check"], THREE, "", 0, "a.c: accepted\na.c:3:22: note: with --threads 2 this team has at most 2; give omplab and ompback --threads 3\n", ""),
     ("a source is refused", ["check"], STATIC, "", 1, LEFT_OUT, ""),
     ("the steps of a session are kept", ["script"], RACE, LOST, 0, SCRIPT, REFUSED_UNDO),
     ("a cone is listed", ["script", "--cone", "5"], RACE, LOST, 0, CONE, REFUSED_UNDO),
@@ -126,6 +126,7 @@ ALONE = [
 BEGUN = [
     ("help goes to standard output", ["--help"], "", "", 0, "Finds, explains, keeps and draws the schedules of an OpenMP program in C.", ""),
     ("so does that of a subcommand", ["hunt", "--help"], "", "", 0, "Tries schedules by chance,", ""),
+    ("a page tells what was turned down, by its line of the input", ["draw"], "", IN_FRONT, 0, "<!DOCTYPE html>\n", TURNED_DOWN),
     ("words are wrong", ["hunts"], "", "", 2, "", "error: unrecognized subcommand 'hunts'"),
     ("a subcommand is missing", [], "", "", 2, "", "error: "),
 ]

@@ -1,4 +1,4 @@
-//! Cases and checks: a program that runs omplab's subcommands over sections, and prints what they write.
+//! Cases and checks: a program that runs omplab's subcommands over stored sections, and prints what each writes.
 //!
 //! Each section of the standard input names a subcommand of omplab, with a C source and the input.
 //! The program makes the call on which that subcommand depends. It prints the exit status that goes with the

@@ -45,6 +45,7 @@ pub(crate) fn written_by<R: Threads + Wait + Sync>(
         "cone" => coned(rt, alloc, number_in(numbers), given),
         "notes" => noted(alloc, given),
         "draw" => drawn(rt, alloc, given),
+        "boxes" => counted(rt, alloc, given),
         _ => Ok(output_of(alloc, WORDS, Vec::new(alloc))),
     }
 }
@@ -142,7 +143,28 @@ fn drawn<R: Threads + Wait + Sync>(
 ) -> Result<Written, ScriptFault> {
     let mut reader = given.input.unwrap_or(&[]);
     match page(rt, alloc, &mut reader, options(given))? {
-        Page::Drawn(text) => Ok(output_of(alloc, DONE, text)),
+        Page::Drawn { page, turned_down } => Ok(Written {
+            status: DONE,
+            text: page,
+            told: turned_down,
+        }),
         Page::Refused(_) => Ok(refused(alloc, given, Vec::new(alloc))?),
     }
+}
+
+// How many boxes the page of the session has, in place of the page.
+fn counted<R: Threads + Wait + Sync>(
+    rt: &R,
+    alloc: Global,
+    given: Given<'_>,
+) -> Result<Written, ScriptFault> {
+    let Written { status, text, told } = drawn(rt, alloc, given)?;
+    let page = str::from_utf8(&text).unwrap_or("");
+    let boxes = page.split("<svg class='step").skip(1).count();
+    let line = format!(in alloc; "boxes: {boxes}\n")?;
+    Ok(Written {
+        status,
+        text: Vec::from_slice(alloc, line.as_bytes())?,
+        told,
+    })
 }

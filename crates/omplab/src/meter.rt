@@ -9,8 +9,8 @@ const MOST_LINES: u64 = 100;
 // Of so many schedules that are tried while one is made short, one is told.
 const TOLD: u64 = 32;
 
-// Goes back to the beginning of the line, and clears it.
-const AGAIN: &str = "\r\x1b[K";
+/// Goes back to the beginning of the line, and clears it.
+pub(crate) const AGAIN: &str = "\r\x1b[K";
 
 /// Writes the number of a try on standard error, on one line that is written over, where that is watched; and
 /// what is bad, as soon as something is found.

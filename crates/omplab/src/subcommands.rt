@@ -1,9 +1,10 @@
 //! What each subcommand does, over any streams. Each answers the exit status. How far a hunt is goes to
-//! standard error; so does which commands of a session were turned down, and why a source is refused.
+//! standard error, and that a page is drawn; so does which commands of a session were turned down, and why a
+//! source is refused.
 
 ghost use Rattle.std.specs.Prelude.{◌<◌, ◌≤◌};
 
-use crate::meter::Meter;
+use crate::meter::{AGAIN, Meter};
 use lab_check::{Report, report};
 use lab_draw::{Page, page};
 use lab_hunt::{Aims, Hunted, push_report};
@@ -28,7 +29,7 @@ pub(crate) struct Host<'a, 'b, H> {
     /// The name of the file of the source, if there is one.
     pub(crate) file: Option<&'b str>,
     pub(crate) options: Options<'b>,
-    /// Whether standard error is a terminal, so that somebody sees how far a hunt is.
+    /// Whether standard error is a terminal, so that somebody sees how far it is.
     pub(crate) is_watched: bool,
 }
 
@@ -46,6 +47,14 @@ impl<H> Host<'_, '_, H> {
     fn tell(&self, text: &[u8]) {
         let mut errors = self.errors;
         let _ = send(&mut errors, text);
+    }
+
+    // Shows words on one line of standard error in place of those before, where that is watched.
+    fn show(&self, words: &str) {
+        if self.is_watched {
+            self.tell(AGAIN.as_bytes());
+            self.tell(words.as_bytes());
+        }
     }
 
     // Tells on standard error why a source is refused, and answers the exit status.
@@ -188,7 +197,7 @@ pub(crate) fn keep<H: Runtime + Threads + Wait + Sync, R: Read, W: Write>(
     }
 }
 
-/// Draws what a session leaves.
+/// Draws what a session leaves. Which commands were turned down goes to standard error.
 pub(crate) fn draw<H: Threads + Wait + Sync, R: Read, W: Write>(
     host: &Host<'_, '_, H>,
     reader: &mut R,
@@ -199,8 +208,14 @@ pub(crate) fn draw<H: Threads + Wait + Sync, R: Read, W: Write>(
 {
     let input = read_all(host.alloc, reader)?;
     let mut bytes = input.as_slice();
-    match page(host.rt, host.alloc, &mut bytes, host.options) {
-        Ok(Page::Drawn(text)) => written(writer, &text, DONE),
+    host.show("the page is drawn");
+    let drawn = page(host.rt, host.alloc, &mut bytes, host.options);
+    host.show("");
+    match drawn {
+        Ok(Page::Drawn { page, turned_down }) => {
+            host.tell(&turned_down);
+            written(writer, &page, DONE)
+        }
         Ok(Page::Refused(_)) => host.refuse(session_bytes(host.options.source, &input).source),
         Err(fault) => Err(within(fault)),
     }
