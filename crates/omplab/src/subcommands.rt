@@ -39,12 +39,16 @@ const INPUT: &str = "<stdin>";
 impl<H> Host<'_, '_, H> {
     // Says whether a source is accepted, and else why not.
     fn report(&self, source: &[u8]) -> AllocResult<Report> {
-        let file = self.file.unwrap_or(INPUT);
-        report(self.alloc, file, source, self.options.workers)
+        report(self.alloc, self.source_name(), source, self.options.workers)
+    }
+
+    /// The name of the source in a report.
+    pub(crate) fn source_name(&self) -> &str {
+        self.file.unwrap_or(INPUT)
     }
 
     // Writes a text on standard error.
-    fn tell(&self, text: &[u8]) {
+    pub(crate) fn tell(&self, text: &[u8]) {
         let mut errors = self.errors;
         let _ = send(&mut errors, text);
     }
