@@ -121,20 +121,22 @@ def of_lab(lab, folder):
     faulty = os.path.join(folder, "faulty.c")
     with open(faulty, "wb") as f:
         f.write(FAULTY)
+    none = os.path.join(folder, "none.c")
+    no_file = f"H3 {none}: no such file\n".encode()
     racy = os.path.join(folder, "racy.c")
     with open(racy, "wb") as f:
         f.write(RACY)
     yield "omplab: no subcommand", (2, b"", None), run([lab])
     yield "omplab: a subcommand that there is not", (2, b"", None), run([lab, "look"])
-    yield "omplab check: a file that is not there", (3, b"", b"H3\n"), run([lab, "check", os.path.join(folder, "none.c")])
-    yield "omplab check: a folder", (3, b"", b"H3\n"), run([lab, "check", folder])
+    yield "omplab check: a file that is not there", (3, b"", no_file), run([lab, "check", none])
+    yield "omplab check: a folder", (3, b"", f"H3 {folder}: a read failed\n".encode()), run([lab, "check", folder])
     yield "omplab check: 33 workers", (2, b"", None), run([lab, "check", "--threads", "33", good])
     yield "omplab check: a pipe that nobody reads", (3, None, b"H4\n"), with_closed_output([lab, "check", good], b"")
     yield "omplab notes: a pipe that nobody reads", (3, None, b"H4\n"), with_closed_output([lab, "notes", good], b"#1 worker 0 line 1\n")
     yield "omplab notes: an input that cannot be read", (3, b"", b"H3\n"), with_closed_input([lab, "notes", good])
     yield "omplab script: an input that cannot be read", (3, b"", b"H3\n"), with_closed_input([lab, "script", good])
     yield "omplab draw: an input that cannot be read", (3, b"", b"H3\n"), with_closed_input([lab, "draw", good])
-    yield "omplab hunt: a file that is not there", (3, b"", b"H3\n"), run([lab, "hunt", os.path.join(folder, "none.c")])
+    yield "omplab hunt: a file that is not there", (3, b"", no_file), run([lab, "hunt", none])
     yield "omplab hunt: no seed", (2, b"", None), run([lab, "hunt", "--seeds", "0", good])
     yield "omplab hunt: a fault", (1, None, b""), run([lab, "hunt", faulty])
     yield "omplab hunt: a race, and a standard error that is no terminal", (1, None, b""), run([lab, "hunt", racy])
@@ -144,10 +146,9 @@ def of_lab(lab, folder):
         with open(FULL, "wb") as full:
             yield f"omplab {word}: a disk that is full", (3, None, b"H4\n"), run([lab, word, racy], b"step 0\n", stdout=full)
     for word in "script", "draw":
-        line = b"refused S3 line 1 column 26\n"
-        yield f"omplab {word}: a refused source", (1, line, b""), run([lab, word, cut], b"step 0\n")
-    yield "omplab hunt: a refused source", (1, None, b""), run([lab, "hunt", cut])
-    yield "omplab notes: a refused source", (0, b"blocked B5 | ", b""), cut_off(run([lab, "notes", cut], b"blocked B5\n"), 13)
+        yield f"omplab {word}: a refused source", (5, b"", None), run([lab, word, cut], b"step 0\n")
+    yield "omplab hunt: a refused source", (5, b"", None), run([lab, "hunt", cut])
+    yield "omplab notes: a refused source", (5, b"blocked B5 | ", None), cut_off(run([lab, "notes", cut], b"blocked B5\n"), 13)
 
 
 def is_wanted(wanted, got):

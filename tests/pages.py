@@ -26,7 +26,7 @@ def stored(name, ending):
 def drawn(lab, name, threads):
     """The page of a session, or None where it has none."""
     source = os.path.join(RACES, name + ".c")
-    done = subprocess.run([lab, "draw", "--threads", threads, source], input=stored(name, ".commands"), stdout=subprocess.PIPE, timeout=60)
+    done = subprocess.run([lab, "draw", "--threads", threads, source], input=stored(name, ".commands"), stdout=subprocess.PIPE, stderr=subprocess.DEVNULL, timeout=60)
     return done.stdout if done.returncode == 0 else None
 
 

@@ -1,9 +1,9 @@
 #!/usr/bin/env python3
-"""subcommands.py LAB: each subcommand of the program `omplab` but `draw` over a source, and what it writes; and its version.
+"""subcommands.py LAB: each subcommand of the program `omplab` over a source, and what it writes; its version, help and faults.
 
 LAB is the program `omplab`. Each row says what is tried; the last line counts the rows, and the status is 1 where one of them
 is wrong. What is wanted stands in each row. Which seed finds a bad schedule, only the generator says.
-The run that is stored in crates/omplab draws a session, and pages.py nine more.
+Of `draw` no whole page is compared: the run that is stored in crates/omplab draws a session, and pages.py nine more.
 It needs Python 3 with its standard library alone.
 """
 import os, subprocess, sys, tempfile
@@ -53,6 +53,7 @@ SCRIPT = "step 0\nstep 0\nstep 1\nstep 0\nstep 1\nstep 0\nstep 0\nstep 0\nstep 1
 CONE = "#5 worker 1 line 6\n#8 worker 0 line 6\n#9 worker 1 line 6\n#10 worker 1 line 6\n#11 worker 1 line 6\n"
 
 SHORTENED = """shortened to 2 blocks: 1 of worker 0, 2 of worker 1, then `run`
+run the script with --threads 2
 
 step 0
 step 1
@@ -63,6 +64,7 @@ output
 
 FAULT = """run: fault F4 of worker 0 in line 4
 shortened to 0 blocks: then `run`
+run the script with --threads 2
 
 run 100000
 output
@@ -79,30 +81,54 @@ STATIC = "int main(void)\n{\n\tstatic int x;\n}\n"
 ON_A_LINE = "int f(int y) { return y; } int main(void) { int x; x = 1; }\n"
 FAULTY = "int main(void)\n{\n    int x;\n    return x;\n}\n"
 ENDLESS = "int main(void){ while (1) ; }"
+
+# The session of a source that stands in the input.
+IN_FRONT = "int x;\nint main(void)\n{\n    x = 1;\n}\n%%\nstep 0\nstepp 0\nstep 7\nstep 1\n"
+TURNED_DOWN = "line 8: stepp 0: H1 unknown command\nline 9: step 7: H2 bad argument\nline 10: step 1: blocked B5\n"
+REFUSED_UNDO = "line 8: undo 0: refused by #11 worker 1 on global x\n"
+
+NO_END = """nothing bad in the schedule of 1 seed
+`run` came to no end, and no seed did: no output was compared; give more --steps
+These are not all schedules, and this is no race detector.
+"""
 HUNT = ["hunt", "--seeds", "20", "--steps", "1000"]
 
-# What is tried, its words, its source, its input, the status and the text that are wanted.
+# What is tried, its words, its source, its input, the status, and the texts that are wanted on standard output and on standard
+# error.
 ROWS = [
-    ("a source is accepted", ["check"], RACE, "", 0, "a.c: accepted\n"),
-    ("a team is smaller than asked for", ["check"], THREE, "", 0, "a.c: accepted\na.c:3:22: note: with --threads 2 this team has at most 2\n"),
-    ("a source is refused", ["check"], STATIC, "", 1, LEFT_OUT),
-    ("the steps of a session are kept", ["script"], RACE, LOST, 0, SCRIPT),
-    ("a cone is listed", ["script", "--cone", "5"], RACE, LOST, 0, CONE),
-    ("words stand behind answers", ["notes"], RACE, ANSWERS, 0, NOTED),
-    ("no function is named where two stand on a line", ["notes"], ON_A_LINE, "refused by #3 worker 1 on cell 0/0/0/0\n", 0, "refused by #3 worker 1 on cell 0/0/0/0 | x\n"),
-    ("a lost update is found", [*HUNT, "--expect", "2\\n"], RACE, "", 1, 'seed 5: printed "1\\n", wanted "2\\n"\n' + SHORTENED),
-    ("what `run` prints is told", HUNT, RACE, "", 1, 'seed 5: printed "1\\n", where `run` prints "2\\n"\n' + SHORTENED),
-    ("the line of a fault is told", ["hunt", "--seeds", "1", "--steps", "10"], FAULTY, "", 1, FAULT),
-]
-
-# The same, where the beginning of the text is wanted.
-BEGUN = [
-    ("nothing was compared", ["hunt", "--seeds", "1", "--steps", "10"], ENDLESS, "", 0, "`run` came to no end, so no output was compared: say by"),
+    ("a source is accepted", ["check"], RACE, "", 0, "a.c: accepted\n", ""),
+    ("a team is smaller than asked for", ["check"], THREE, "", 0, "a.c: accepted\na.c:3:22: note: with --threads 2 this team has at most 2; give omplab and ompback --threads 3\n", ""),
+    ("a source is refused", ["check"], STATIC, "", 1, LEFT_OUT, ""),
+    ("the steps of a session are kept", ["script"], RACE, LOST, 0, SCRIPT, REFUSED_UNDO),
+    ("a cone is listed", ["script", "--cone", "5"], RACE, LOST, 0, CONE, REFUSED_UNDO),
+    ("words stand after answers", ["notes"], RACE, ANSWERS, 0, NOTED, ""),
+    ("no function is named where two stand on a line", ["notes"], ON_A_LINE, "refused by #3 worker 1 on cell 0/0/0/0\n", 0, "refused by #3 worker 1 on cell 0/0/0/0 | x\n", ""),
+    ("a lost update is found", [*HUNT, "--expect", "2\\n"], RACE, "", 1, 'seed 5: printed "1\\n", wanted "2\\n"\n' + SHORTENED, ""),
+    ("what `run` prints is told", HUNT, RACE, "", 1, 'seed 5: printed "1\\n", where `run` prints "2\\n"\n' + SHORTENED, ""),
+    ("the line of a fault is told", ["hunt", "--seeds", "1", "--steps", "10"], FAULTY, "", 1, FAULT, ""),
+    ("nothing was compared", ["hunt", "--seeds", "1", "--steps", "10"], ENDLESS, "", 0, NO_END, ""),
+    ("no hunt of a refused source", HUNT, STATIC, "", 5, "", LEFT_OUT),
+    ("no script of a refused source", ["script"], STATIC, "step 0\n", 5, "", LEFT_OUT),
+    ("no cone of a refused source", ["script", "--cone", "1"], STATIC, "step 0\n", 5, "", LEFT_OUT),
+    ("no page of a refused source", ["draw"], STATIC, "step 0\n", 5, "", LEFT_OUT),
+    ("answers to a refused source are passed on", ["notes"], STATIC, "blocked B5\n", 5, "blocked B5 | the worker is idle: it has no task; step worker 0 into a parallel\n", LEFT_OUT),
 ]
 
 # The same, where no source is named.
 ALONE = [
-    ("the version is told", ["--version"], "", "", 0, "omplab 0.9.0\n"),
+    ("the version is told", ["--version"], "", "", 0, "omplab 0.9.0\n", ""),
+    ("what was turned down is told by its line of the input", ["script"], "", IN_FRONT, 0, "step 0\n", TURNED_DOWN),
+    ("a source in the input is refused", ["script"], "", STATIC, 5, "", LEFT_OUT.replace("a.c", "<stdin>")),
+    ("there is no such file", ["check", "b.c"], "", "", 3, "", "H3 b.c: no such file\n"),
+]
+
+# The same, where the beginning of the text is wanted: of standard output, and of standard error.
+BEGUN = [
+    ("help goes to standard output", ["--help"], "", "", 0, "Finds, explains, keeps and draws the schedules of an OpenMP program in C.", ""),
+    ("so does that of a subcommand", ["hunt", "--help"], "", "", 0, "Tries schedules by chance,", ""),
+    ("a page tells what was turned down, by its line of the input", ["draw"], "", IN_FRONT, 0, "<!DOCTYPE html>\n", TURNED_DOWN),
+    ("words are wrong", ["hunts"], "", "", 2, "", "error: unrecognized subcommand 'hunts'"),
+    ("a subcommand is missing", [], "", "", 2, "", "error: "),
 ]
 
 
@@ -116,10 +142,14 @@ def written(lab, folder, words, source, text):
 
 
 def is_as_wanted(lab, folder, row, is_begun):
-    title, words, source, text, status, wanted = row
-    got_status, got, fault = written(lab, folder, words, source, text)
-    is_right = got_status == status and fault == "" and (got.startswith(wanted) if is_begun else got == wanted)
-    print(f"{title}: {'as it is wanted' if is_right else f'WRONG, status {got_status}, {got!r}, {fault!r}'}")
+    title, words, source, text, status, wanted, errors = row
+    got_status, got, got_errors = written(lab, folder, words, source, text)
+    if is_begun:
+        is_right = got.startswith(wanted) and got_errors.startswith(errors) and (wanted == "") == (got == "") and (errors == "") == (got_errors == "")
+    else:
+        is_right = got == wanted and got_errors == errors
+    is_right = is_right and got_status == status
+    print(f"{title}: {'as it is wanted' if is_right else f'WRONG, status {got_status}, {got!r}, {got_errors!r}'}")
     return is_right
 
 

@@ -1,23 +1,29 @@
-//! Hunts, and the seeds that they tell.
+//! Hunts, and what they tell of how far they are.
 
 use crate::sections::{Given, cut};
-use crate::subcommands::{DONE, REFUSED, WORKERS, Written, number_in};
+use crate::subcommands::{WORKERS, Written, number_in, output_of, refused};
 use lab_hunt::{Aims, Hunted, Progress, hunt, push_report};
 use lab_script::ScriptFault;
+use lab_text::status::{BAD, DONE};
 use om_seq::AllocResult;
 use std::alloc::Global;
 use std::sync::Wait;
 use std::thread::Threads;
 
-// Counts the seeds that a hunt tells.
+// Counts the seeds that a hunt tells, and keeps what it says of a bad schedule.
 #[derive(Drop)]
 struct Count {
+    alloc: Global,
     // How many seeds the hunt has to try.
     seeds: u64,
     // The last seed that was told; 0 where none was.
     last: u64,
     // Whether each was the one after the last, and the hunt told how many there are.
     is_in_turn: bool,
+    // What was told of the last bad schedule, before it was made short.
+    found: Vec<u8>,
+    // Whether a shorter schedule was told of since.
+    shortens: bool,
 }
 
 impl Progress for Count {
@@ -26,19 +32,47 @@ impl Progress for Count {
         self.is_in_turn = self.is_in_turn && is_next && seeds == self.seeds;
         self.last = seed;
     }
-}
 
-impl Count {
-    // The last seed that was told. All from 1 on were told in turn, unless the line says otherwise.
-    fn line(&self, alloc: Global) -> AllocResult<String> {
-        let last = self.last;
-        let order = if self.is_in_turn { "" } else { ", out of turn" };
-        format!(in alloc; "seeds told: {last}{order}\n")
+    fn found(&mut self, words: &[u8]) {
+        if let Ok(words) = Vec::from_slice(self.alloc, words) {
+            self.found = words;
+        }
+        self.shortens = false;
+    }
+
+    fn shortens(&mut self, _blocks: usize) {
+        self.shortens = true;
     }
 }
 
-/// What a hunt writes: the last seed that it told, and its report. Where it finds nothing, there follows what
-/// ompback answers to `run` and `output` alone.
+impl Count {
+    // Appends the last seed that was told: all from 1 on were told in turn, unless the line says otherwise. On the
+    // next line there is what was told of a bad schedule, and whether it was told that it is made short.
+    fn push(&self, text: &mut Vec<u8>) -> AllocResult<()> {
+        let last = self.last;
+        let order = if self.is_in_turn { "" } else { ", out of turn" };
+        let line = format!(in self.alloc; "seeds told: {last}{order}\n")?;
+        text.extend_from_slice(line.as_bytes())?;
+        if self.found.is_empty() {
+            return Ok(());
+        }
+        text.extend_from_slice(b"bad told: ")?;
+        text.extend_from_slice(self.found.as_slice())?;
+        text.extend_from_slice(self.end())
+    }
+
+    // The end of the line of a bad schedule.
+    fn end(&self) -> &'static [u8] {
+        if self.shortens {
+            b"; it is made short\n"
+        } else {
+            b"\n"
+        }
+    }
+}
+
+/// What a hunt writes: what it told on its way, and its report. Where it finds nothing, there follows what ompback
+/// answers to `run` and `output` alone.
 ///
 /// What the program is to print is the input of the section, if it has one.
 pub(crate) fn hunted<R: Threads + Wait + Sync>(
@@ -55,21 +89,36 @@ pub(crate) fn hunted<R: Threads + Wait + Sync>(
         expected: given.input,
     };
     let mut count = Count {
+        alloc,
         seeds: aims.seeds,
         last: 0,
         is_in_turn: true,
+        found: Vec::new(alloc),
+        shortens: false,
     };
     let hunted = hunt(rt, alloc, given.source, &aims, &mut count)?;
-    let line = count.line(alloc)?;
+    Ok(told_of(alloc, given, &count, &hunted)?)
+}
+
+// What is written of a hunt.
+fn told_of(
+    alloc: Global,
+    given: Given<'_>,
+    count: &Count,
+    hunted: &Hunted,
+) -> AllocResult<Written> {
     let mut text = Vec::new(alloc);
-    text.extend_from_slice(line.as_bytes())?;
-    push_report(&mut text, &hunted, given.input.is_none())?;
-    let status = match &hunted {
+    count.push(&mut text)?;
+    match hunted {
+        Hunted::Refused(_) => refused(alloc, given, text),
         Hunted::Nothing { printed, .. } => {
+            push_report(&mut text, hunted)?;
             text.extend_from_slice(printed.as_slice())?;
-            DONE
+            Ok(output_of(alloc, DONE, text))
         }
-        _ => REFUSED,
-    };
-    Ok(Written { status, text })
+        Hunted::Found(_) => {
+            push_report(&mut text, hunted)?;
+            Ok(output_of(alloc, BAD, text))
+        }
+    }
 }

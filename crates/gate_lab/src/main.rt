@@ -1,6 +1,8 @@
-//! Cases of omplab. Each section of the standard input names a subcommand of omplab, with a C source and the input.
+//! Cases and checks: a program that runs omplab's subcommands over stored sections, and prints what each writes.
+//!
+//! Each section of the standard input names a subcommand of omplab, with a C source and the input.
 //! The program makes the call on which that subcommand depends. It prints the exit status that goes with the
-//! answer, and all that was written. A hunt also tells of how many seeds its progress was told.
+//! answer, and all that was written. Of a hunt it also prints what its progress was told.
 #![tactic(auto)]
 
 mod hunts;

@@ -1,11 +1,12 @@
 //! The sections of the input, and what is told of each.
 //!
 //! A section begins with a line `== HEAD`. The next line is a subcommand with its numbers: `check`, `script`,
-//! `cone SERIAL`, `notes`, `draw` or `hunt SEEDS STEPS`. Below it stands a C source. After a line `%%` stands the
-//! input: commands, answers, or what the program of a hunt is to print. The line end before the next head is no
+//! `cone SERIAL`, `notes`, `draw`, `boxes` (which counts those of a page) or `hunt SEEDS STEPS`. Below it stands a
+//! C source. After a line `%%` stands the input: commands, answers, or what the program of a hunt is to print. The line end before the next head is no
 //! part of the input. So an empty line follows an input that ends with a line end.
 //!
-//! What is told has the same form: the head, the exit status, and the text that was written.
+//! What is told has the same form: the head, the exit status, and the text that was written. Before it stands
+//! `standard error:` with a text that was written there, if there is one.
 
 use crate::subcommands::written_by;
 use lab_script::ScriptFault;
@@ -43,9 +44,19 @@ fn add_section<R: Threads + Wait + Sync>(
     let (head, body) = cut(section, '\n');
     let (words, rest) = cut(body, '\n');
     let written = written_by(rt, alloc, words, given_in(rest))?;
-    let text = str::from_utf8(written.text.as_slice()).unwrap_or("no text");
-    write!(told, "== {head}\nstatus {}\n{text}\n", written.status)?;
+    write!(told, "== {head}\nstatus {}\n", written.status)?;
+    if !written.told.is_empty() {
+        let errors = text_of(&written.told);
+        write!(told, "standard error:\n{errors}standard output:\n")?;
+    }
+    let text = text_of(&written.text);
+    write!(told, "{text}\n")?;
     Ok(())
+}
+
+// What bytes are as a text.
+fn text_of(bytes: &[u8]) -> &str {
+    str::from_utf8(bytes).unwrap_or("no text")
 }
 
 // What stands below the first two lines of a section.

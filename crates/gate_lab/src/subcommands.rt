@@ -6,19 +6,12 @@ use lab_check::{Report, report};
 use lab_draw::{Page, page};
 use lab_notes::annotate;
 use lab_script::{Script, ScriptFault, cone, script};
+use lab_text::status::{BAD, DONE, REFUSED, WORDS};
+use om_seq::AllocResult;
 use om_shell::Options;
 use std::alloc::Global;
 use std::sync::Wait;
 use std::thread::Threads;
-
-/// The exit status where it was done.
-pub(crate) const DONE: u8 = 0;
-
-/// The exit status where the source is refused, or a bad schedule is found.
-pub(crate) const REFUSED: u8 = 1;
-
-// The exit status where the words name no subcommand.
-const WORDS: u8 = 2;
 
 /// How many workers run each source.
 pub(crate) const WORKERS: u8 = 2;
@@ -30,7 +23,10 @@ const FILE: &str = "a.c";
 #[derive(Drop)]
 pub(crate) struct Written {
     pub status: u8,
+    /// What goes to standard output.
     pub text: Vec<u8>,
+    /// What goes to standard error: why the source is refused, or which commands were turned down.
+    pub told: Vec<u8>,
 }
 
 /// What the subcommand of these words writes. All streams are in memory, so the fault is out of memory, or that
@@ -43,16 +39,14 @@ pub(crate) fn written_by<R: Threads + Wait + Sync>(
 ) -> Result<Written, ScriptFault> {
     let (name, numbers) = cut(words, ' ');
     match name {
-        "check" => checked(alloc, given),
+        "check" => Ok(checked(alloc, given)?),
         "hunt" => hunted(rt, alloc, numbers, given),
         "script" => scripted(rt, alloc, given),
         "cone" => coned(rt, alloc, number_in(numbers), given),
         "notes" => noted(alloc, given),
         "draw" => drawn(rt, alloc, given),
-        _ => Ok(Written {
-            status: WORDS,
-            text: Vec::new(alloc),
-        }),
+        "boxes" => counted(rt, alloc, given),
+        _ => Ok(output_of(alloc, WORDS, Vec::new(alloc))),
     }
 }
 
@@ -61,10 +55,38 @@ pub(crate) fn number_in(word: &str) -> u64 {
     word.parse().unwrap_or(1)
 }
 
+/// What is written to standard output alone.
+pub(crate) fn output_of(alloc: Global, status: u8, text: Vec<u8>) -> Written {
+    Written {
+        status,
+        text,
+        told: Vec::new(alloc),
+    }
+}
+
+/// What is written where the source is refused: the text, and on standard error what `check` says.
+pub(crate) fn refused(alloc: Global, given: Given<'_>, text: Vec<u8>) -> AllocResult<Written> {
+    let report = report(alloc, FILE, given.source, WORKERS)?;
+    Ok(Written {
+        status: REFUSED,
+        text,
+        told: report.text,
+    })
+}
+
+// The source of a session, and how many workers there are.
+fn options(given: Given<'_>) -> Options<'_> {
+    Options {
+        workers: WORKERS,
+        source: Some(given.source),
+    }
+}
+
 // Whether the source is accepted, and else why not.
-fn checked(alloc: Global, given: Given<'_>) -> Result<Written, ScriptFault> {
+fn checked(alloc: Global, given: Given<'_>) -> AllocResult<Written> {
     let Report { text, status } = report(alloc, FILE, given.source, WORKERS)?;
-    Ok(Written { status, text })
+    let status = if status == 0 { DONE } else { BAD };
+    Ok(output_of(alloc, status, text))
 }
 
 // The steps that the session leaves.
@@ -74,11 +96,8 @@ fn scripted<R: Threads + Wait + Sync>(
     given: Given<'_>,
 ) -> Result<Written, ScriptFault> {
     let mut reader = given.input.unwrap_or(&[]);
-    let options = Options {
-        workers: WORKERS,
-        source: Some(given.source),
-    };
-    Ok(lines_of(script(rt, alloc, &mut reader, options)?))
+    let script = script(rt, alloc, &mut reader, options(given))?;
+    Ok(lines_of(alloc, given, script)?)
 }
 
 // The steps that a roll would take.
@@ -89,30 +108,31 @@ fn coned<R: Threads + Wait + Sync>(
     given: Given<'_>,
 ) -> Result<Written, ScriptFault> {
     let mut reader = given.input.unwrap_or(&[]);
-    let options = Options {
-        workers: WORKERS,
-        source: Some(given.source),
-    };
-    Ok(lines_of(cone(rt, alloc, &mut reader, options, serial)?))
+    let cone = cone(rt, alloc, &mut reader, options(given), serial)?;
+    Ok(lines_of(alloc, given, cone)?)
 }
 
 // The lines of a script, or of a cone.
-fn lines_of(script: Script) -> Written {
+fn lines_of(alloc: Global, given: Given<'_>, script: Script) -> AllocResult<Written> {
     match script {
-        Script::Steps(text) => Written { status: DONE, text },
-        Script::Refused(text) => Written {
-            status: REFUSED,
-            text,
-        },
+        Script::Steps { lines, turned_down } => Ok(Written {
+            status: DONE,
+            text: lines,
+            told: turned_down,
+        }),
+        Script::Refused(_) => refused(alloc, given, Vec::new(alloc)),
     }
 }
 
-// The answers, with words behind them.
+// The answers, with words after them.
 fn noted(alloc: Global, given: Given<'_>) -> Result<Written, ScriptFault> {
     let mut reader = given.input.unwrap_or(&[]);
     let mut text = Vec::new(alloc);
-    annotate(alloc, given.source, &mut reader, &mut text)?;
-    Ok(Written { status: DONE, text })
+    if annotate(alloc, given.source, &mut reader, &mut text)? {
+        Ok(output_of(alloc, DONE, text))
+    } else {
+        Ok(refused(alloc, given, text)?)
+    }
 }
 
 // The page of the session.
@@ -122,15 +142,29 @@ fn drawn<R: Threads + Wait + Sync>(
     given: Given<'_>,
 ) -> Result<Written, ScriptFault> {
     let mut reader = given.input.unwrap_or(&[]);
-    let options = Options {
-        workers: WORKERS,
-        source: Some(given.source),
-    };
-    match page(rt, alloc, &mut reader, options)? {
-        Page::Drawn(text) => Ok(Written { status: DONE, text }),
-        Page::Refused(text) => Ok(Written {
-            status: REFUSED,
-            text,
+    match page(rt, alloc, &mut reader, options(given))? {
+        Page::Drawn { page, turned_down } => Ok(Written {
+            status: DONE,
+            text: page,
+            told: turned_down,
         }),
+        Page::Refused(_) => Ok(refused(alloc, given, Vec::new(alloc))?),
     }
+}
+
+// How many boxes the page of the session has, in place of the page.
+fn counted<R: Threads + Wait + Sync>(
+    rt: &R,
+    alloc: Global,
+    given: Given<'_>,
+) -> Result<Written, ScriptFault> {
+    let Written { status, text, told } = drawn(rt, alloc, given)?;
+    let page = str::from_utf8(&text).unwrap_or("");
+    let boxes = page.split("<svg class='step").skip(1).count();
+    let line = format!(in alloc; "boxes: {boxes}\n")?;
+    Ok(Written {
+        status,
+        text: Vec::from_slice(alloc, line.as_bytes())?,
+        told,
+    })
 }

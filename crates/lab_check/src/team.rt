@@ -6,6 +6,9 @@ use om_seq::AllocResult;
 use om_shell_commands::push_numbered;
 use std::alloc::{AllocError, Global};
 
+// How many workers there are at most.
+const MOST_WORKERS: u8 = 32;
+
 // Whether a token is this punctuator.
 fn is_mark(token: &Token, mark: Punctuator) -> bool {
     matches!(&token.kind, TokenKind::Punctuator(found) if *found == mark)
@@ -38,11 +41,22 @@ pub(crate) struct Checked<'a> {
     pub(crate) workers: u8,
 }
 
-fn push_note(text: &mut Vec<u8>, checked: Checked<'_>, at: u32) -> AllocResult<()> {
+// Appends that a team is smaller than asked for.
+fn push_note(text: &mut Vec<u8>, checked: Checked<'_>, at: u32, asked: u32) -> AllocResult<()> {
     push_place(text, checked.file, checked.source, at)?;
     push_numbered(text, b": note: with --threads ", checked.workers)?;
     push_numbered(text, b" this team has at most ", checked.workers)?;
+    push_remedy(text, checked.workers, asked)?;
     text.extend_from_slice(b"\n")
+}
+
+// Appends with which `--threads` it is larger, where there may be more workers.
+fn push_remedy(text: &mut Vec<u8>, workers: u8, asked: u32) -> AllocResult<()> {
+    if workers >= MOST_WORKERS {
+        return Ok(());
+    }
+    let wanted = asked.min(u32::from(MOST_WORKERS));
+    push_numbered(text, b"; give omplab and ompback --threads ", wanted)
 }
 
 // A note for each clause of a directive that asks for too many.
@@ -56,7 +70,7 @@ fn push_notes(text: &mut Vec<u8>, checked: Checked<'_>, tokens: &[Token]) -> All
         }
         let asked = threads_asked(&tokens[at..]).unwrap_or(0);
         if in_directive && asked > u32::from(checked.workers) {
-            push_note(text, checked, tokens[at].span.start)?;
+            push_note(text, checked, tokens[at].span.start, asked)?;
         }
     }
     Ok(())

@@ -34,8 +34,8 @@ fn refused(alloc: Global, file: &str, source: &[u8], fault: SourceFault) -> Allo
 ///
 /// Of a refused source it is `FILE:LINE:COLUMN: error: S3: `, words, the line with a mark under the token,
 /// and help where there is some. Of an accepted one it is `FILE: accepted`, and a note for each `num_threads`
-/// whose constant is above the number of workers. Columns count bytes from 1. The only error is out of
-/// memory.
+/// whose constant is above the number of workers, with the `--threads` that gives the team more. Columns
+/// count bytes from 1. The only error is out of memory.
 pub fn report(alloc: Global, file: &str, source: &[u8], workers: u8) -> AllocResult<Report>
     ensures { IfOk result
         (λ report. Reports file.now source.now report.text.items report.status) }

@@ -9,6 +9,7 @@ use Rattle.lab_graph.specs.declared.traced.Traced.{Traced}
 use Rattle.lab_graph.specs.declared.picture.StepBox.{StepBox}
 use Rattle.lab_graph.specs.declared.picture.Arrow.{Arrow}
 use Rattle.lab_graph.specs.Pictures.{box_of, IsArrow}
+use Rattle.lab_replay.specs.Said.{AreSaid}
 use Rattle.lab_replay.specs.Traces.{transition_of}
 use Rattle.lab_draw.specs.declared.scale.Scale.{Scale}
 use Rattle.lab_draw.specs.declared.outcome.Page as outcome
@@ -22,11 +23,12 @@ use Rattle.om_shell.specs.Files.{ReadsAll}
 pub drawing_of : (m seen : MachineView) (program : Raw) (steps ts : List Traced) (boxes : List StepBox)
     (arrows : List Arrow) (scale : Scale) (front behind bytes : List ℕ) → seen ≡ m → program ≡ seen.program
     → ts ≡ steps → map transition_of steps ≡ transitions (rules_for seen) seen.history.entries
+    → AreSaid seen seen.history.entries steps
     → boxes ≡ map box_of ts → ((x : Arrow) → Contains arrows x ↔ IsArrow ts x)
     → scale.first ≡ first_serial boxes
     → bytes ≡ front ++ arrows_text program (codes "arrow") scale arrows ++ boxes_text (codes "step") scale boxes
     ++ behind → IsDrawing m bytes
-drawing_of m seen program steps ts boxes arrows scale front behind bytes same p same_steps traced b exactly left text =
+drawing_of m seen program steps ts boxes arrows scale front behind bytes same p same_steps traced said b exactly left text =
     let program_is : program ≡ m.program = p ∙ ap (λ (x : MachineView). x.program) same in
     let boxes_are : boxes ≡ map box_of steps = b ∙ ap (λ (l : List Traced). map box_of l) same_steps in
     record {
@@ -34,6 +36,7 @@ drawing_of m seen program steps ts boxes arrows scale front behind bytes same p 
       traced =
           subst (λ (x : MachineView). map transition_of steps ≡ transitions (rules_for x) x.history.entries)
           same traced;
+      said = subst (λ (x : MachineView). AreSaid x x.history.entries steps) same said;
       arrows = arrows;
       exactly = subst (λ (l : List Traced). (x : Arrow) → Contains arrows x ↔ IsArrow l x) same_steps exactly;
       scale = scale;
@@ -47,19 +50,15 @@ drawing_of m seen program steps ts boxes arrows scale front behind bytes same p 
 
 -- what a session that was run over a reader's bytes shows
 pub page_of : (left_before left_after : Option (List ℕ)) (workers : ℕ) (given : Option (List ℕ))
-    (input seen old text : List ℕ) (status : ℕ) (book : Option BookView) (page : outcome.Page)
-    → ReadsAll left_before left_after input → seen ≡ input → old ≡ []
-    → Leaves seen old text workers given status book → IsShown book text page
-    → IsPage left_before left_after workers given page
-page_of left_before left_after workers given input seen old text status book page reads same none leaves shown =
-    record {
-      input = input;
-      reads = reads;
-      text = text;
-      status = status;
-      book = book;
-      leaves =
-          subst (λ l. Leaves l [] text workers given status book) same
-          (subst (λ o. Leaves seen o text workers given status book) none leaves);
-      shown = shown;
-    }
+    (input seen text : List ℕ) (status : ℕ) (book : Option BookView) (page : outcome.Page)
+    → ReadsAll left_before left_after input → seen ≡ input → Leaves seen text workers given status book
+    → IsShown book text page → IsPage left_before left_after workers given page
+page_of left_before left_after workers given input seen text status book page reads same leaves shown = record {
+  input = input;
+  reads = reads;
+  text = text;
+  status = status;
+  book = book;
+  leaves = subst (λ l. Leaves l text workers given status book) same leaves;
+  shown = shown;
+}

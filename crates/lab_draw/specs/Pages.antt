@@ -5,7 +5,6 @@ use Rattle.om_code.specs.declared.raw.Raw.{Raw}
 use Rattle.om_undo_history.specs.Cones.{transitions}
 use Rattle.om_undo.specs.Machines.{MachineView, rules_for}
 use Rattle.om_book.specs.Books.{BookView, machine_of}
-use Rattle.om_shell.specs.declared.ended.Ended.{Ended}
 use Rattle.om_shell.specs.declared.shell.Options.{Options}
 use Rattle.om_shell.specs.Files.{ReadsAll}
 use Rattle.om_shell.specs.Ends.{RunsToEnd}
@@ -14,24 +13,27 @@ use Rattle.lab_graph.specs.declared.traced.Traced.{Traced}
 use Rattle.lab_graph.specs.declared.picture.Arrow.{Arrow}
 use Rattle.lab_graph.specs.declared.picture.Picture.{Picture}
 use Rattle.lab_draw.specs.declared.scale.Scale.{Scale}
+use Rattle.lab_draw.specs.declared.session.Heard.{Heard}
 use Rattle.lab_draw.specs.declared.outcome.Page as outcome
 use Rattle.lab_draw.specs.declared.outcome.Page.TheVariants.{Drawn, Refused}
 use Rattle.lab_graph.specs.Pictures.{box_of, IsArrow}
+use Rattle.lab_replay.specs.Said.{AreSaid}
 use Rattle.lab_replay.specs.Traces.{transition_of}
 use Rattle.lab_draw.specs.Marks.{boxes_text}
 use Rattle.lab_draw.specs.Places.{first_serial}
 use Rattle.lab_draw.specs.Strokes.{arrows_text}
 
 -- a session over these bytes came to its end: what it wrote, and the book that it left
-abbrev pub Leaves : List ℕ → List ℕ → List ℕ → ℕ → Option (List ℕ) → ℕ → Option BookView → Type 0
-Leaves input old new workers given status book =
+abbrev pub Leaves : List ℕ → List ℕ → ℕ → Option (List ℕ) → ℕ → Option BookView → Type 0
+Leaves input text workers given status book =
     (left : Option (List ℕ))
-    × RunsToEnd (moment_of (Some input) (Some old) []) (moment_of left (Some new) []) workers given status book
+    × RunsToEnd (moment_of (Some input) (Some []) []) (moment_of left (Some text) []) workers given status book
 
--- a session with these options over these bytes came to such an end
-abbrev pub EndsSo : List ℕ → List ℕ → List ℕ → Options → Ended → Type 0
-EndsSo input old new options ended =
-    Leaves input old new options.workers (option_copied options.source) ended.status ended.book
+-- a session with these options over these bytes came to an end with a status, and this was heard of it
+abbrev pub EndsSo : List ℕ → Options → Heard → Type 0
+EndsSo input options heard =
+    (status : ℕ)
+    × Leaves input heard.text.items options.workers (option_copied options.source) status heard.book
 
 -- a page has a front, the arrows and the boxes of a picture, and a foot
 abbrev pub HasElements : Vec ℕ Global → Raw → Scale → Picture → List ℕ → Vec ℕ Global → Type 0
@@ -44,9 +46,11 @@ HasElements front program scale picture foot page = page.items
 -- have one. The first entry stands at the left. Of what stands before and behind it nothing is said: there are steps
 -- that were taken out, and undos that were refused.
 pub record IsDrawing (m : MachineView) (bytes : List ℕ) : Type 0 where
-  -- the entries with the footprints of their steps in the replay; their instruction, variable and value are any bytes
+  -- the entries with the footprints of their steps in the replay; their instruction and variable are any bytes
   pub steps : List Traced
   pub traced : map transition_of steps ≡ transitions (rules_for m) m.history.entries
+  -- each says whether its step met a fault; if it did not, and put a number, its value is that number behind a name
+  pub said : AreSaid m m.history.entries steps
   pub arrows : List Arrow
   pub exactly : (x : Arrow) → Contains arrows x ↔ IsArrow steps x
   pub scale : Scale
@@ -60,7 +64,7 @@ pub record IsDrawing (m : MachineView) (bytes : List ℕ) : Type 0 where
 -- what is shown of a session: the picture of the history in the book that it left, or what it wrote, which is the line
 -- of its refusal
 abbrev pub IsShown : Option BookView → List ℕ → outcome.Page → Type 0
-IsShown (Some book) text (Drawn page) = IsDrawing (machine_of book) page.items
+IsShown (Some book) text (Drawn page turned_down) = IsDrawing (machine_of book) page.items
 IsShown None text (Refused line) = line.items ≡ text
 IsShown _ text _ = ⊥
 
@@ -72,7 +76,7 @@ pub record IsPage (left_before left_after : Option (List ℕ)) (workers : ℕ) (
   pub text : List ℕ
   pub status : ℕ
   pub book : Option BookView
-  pub leaves : Leaves input [] text workers given status book
+  pub leaves : Leaves input text workers given status book
   pub shown : IsShown book text page
 
 -- this page comes of a session with these options over all that a reader had

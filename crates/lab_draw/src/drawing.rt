@@ -2,13 +2,14 @@
 
 ghost use Rattle.std.specs.Prelude.{◌<◌, ◌≤◌, IfOk};
 ghost use Rattle.om_book.specs.Books.{machine_of};
-ghost use Rattle.lab_draw.specs.Pages.{EndsSo, HasElements, IsDrawing, IsShown, Shows};
+ghost use Rattle.lab_draw.specs.Pages.{HasElements, IsDrawing, IsShown, Shows};
 
 use crate::beside::{Beside, beside_of, push_beside};
 use crate::front::push_front;
 use crate::marks::push_boxes;
 use crate::outcome::Page;
 use crate::scale::Scale;
+use crate::session::{Heard, hear};
 use crate::strokes::push_arrows;
 use crate::style::FOOT;
 use lab_graph::{Picture, picture_of};
@@ -16,7 +17,7 @@ use lab_replay::trace;
 use om_book::Book;
 use om_code::Program;
 use om_seq::AllocResult;
-use om_shell::{Ended, Options, ShellFault, read_all, run, session_bytes};
+use om_shell::{Options, ShellFault, read_all, session_bytes};
 use std::alloc::Global;
 use std::io::Read;
 use std::sync::Wait;
@@ -25,10 +26,10 @@ use std::thread::Threads;
 /// The page of a session: its source beside its causal history.
 ///
 /// The reader is read to its end. It holds commands, behind a source and a line `%%` unless the options
-/// have the source. The session runs, and its replies are not shown. The history that it leaves is drawn,
-/// however long it is: each entry has a box, and an arrow to it from the last entry of each other worker
-/// that conflicts with it. The first entry stands at the left. What was taken out is grey and stands
-/// apart, and an undo that was refused is red.
+/// have the source. The session runs, and its replies are not shown; which commands it turned down is said
+/// besides. The history that it leaves is drawn, however long it is: each entry has a box, and an arrow to it
+/// from the last entry of each other worker that conflicts with it. The first entry stands at the left. What
+/// was taken out is grey and stands apart, and an undo that was refused is red.
 ///
 /// Errors are `Read` (H3), where a read fails, and `Memory` (H5).
 pub fn page<H: Threads + Wait + Sync, R: Read>(
@@ -42,39 +43,27 @@ pub fn page<H: Threads + Wait + Sync, R: Read>(
     ensures { IfOk result (Shows (R.remaining reader.old) (R.remaining reader.new) options.entry) }
 {
     let input = read_all(alloc, reader)?;
-    let mut text = Vec::new(alloc);
-    match session(rt, alloc, &input, &mut text, options) {
-        Ok(ended) => {
+    match hear(rt, alloc, &input, options) {
+        Ok(heard) => {
             let source = session_bytes(options.source, &input).source;
-            shown(alloc, source, ended, text)
+            shown(alloc, source, heard)
         }
         Err(fault) => Err(fault),
     }
 }
 
-// Runs a session whose input was read.
-fn session<H: Threads + Wait + Sync>(
-    rt: &H,
-    alloc: Global,
-    mut input: &[u8],
-    text: &mut Vec<u8>,
-    options: Options<'_>,
-) -> Result<Ended, ShellFault>
-    requires at_least_one { 0 < options.workers }
-    requires at_most_32 { options.workers ≤ 32 }
-    ensures { IfOk result (EndsSo input.entry.now text.old.items text.new.items options.entry) }
+// What is shown of a session of which this was heard.
+fn shown(alloc: Global, source: &[u8], heard: Heard) -> Result<Page, ShellFault>
+    ensures { IfOk result (IsShown heard.book heard.text.items) }
 {
-    run(rt, alloc, &mut input, text, options)
-}
-
-// What is shown of a session that ended so and wrote this text.
-fn shown(alloc: Global, source: &[u8], ended: Ended, text: Vec<u8>) -> Result<Page, ShellFault>
-    ensures { IfOk result (IsShown ended.book text.items) }
-{
-    let Ended { status: _, book } = ended;
+    let Heard {
+        text,
+        book,
+        turned_down,
+    } = heard;
     match book {
         Some(book) => match drawn(alloc, source, &book) {
-            Ok(page) => Ok(Page::Drawn(page)),
+            Ok(page) => Ok(Page::Drawn { page, turned_down }),
             Err(error) => Err(ShellFault::from(error)),
         },
         None => Ok(Page::Refused(text)),

@@ -1,6 +1,6 @@
 //! omplab draw: the page of a session in HTML and SVG: source, lanes, boxes, arrows, what was taken back or refused.
 //!
-//! - `page` runs a session, and draws the history that it leaves (`drawing`).
+//! - `page` runs a session (`session`), and draws the history that it leaves (`drawing`).
 //! - `front` and `style` write the page with its source and lanes. `marks` write boxes, `strokes` arrows,
 //!   `object` the words on arrows; `scale` says where each stands, and `escape` escapes markup.
 //! - `story` tells from the journal what was taken back and which undos were refused; `beside` draws these
@@ -15,6 +15,7 @@ mod marks;
 mod object;
 mod outcome;
 mod scale;
+mod session;
 mod story;
 mod strokes;
 mod style;

@@ -1,1 +1,2 @@
 pub mod Finds
+pub mod Tries

@@ -1,13 +1,14 @@
 //! The hunt: schedules by chance, up to the first that is bad, and that one made short.
 
-ghost use Rattle.std.specs.Prelude.{◌<◌, ◌≤◌, IfOk, IfSome};
-ghost use Rattle.lab_hunt.specs.Finds.{IsFoundOn, IsHuntBy};
+ghost use Rattle.std.specs.Prelude.{◌≡◌, ◌<◌, ◌≤◌, None, true, is_some, IfOk};
+ghost use Rattle.lab_judge.specs.Texts.{text_in};
+ghost use Rattle.lab_hunt.specs.Finds.{IsHuntBy};
+ghost use Rattle.lab_hunt.specs.Tries.{IsComparedAfter, IsSought};
 
-use lab_schedules::{
-    Aims, Alone, Chances, Found, Ground, Hunted, Progress, Schedule, alone_of, end_of, script,
-};
+use crate::tries::{Field, Tried, Tries};
+use lab_judge::{Alone, Standard, Wanted, alone_of};
+use lab_schedules::{Aims, Found, Ground, Hunted, Progress, script};
 use lab_script::{Ran, run_over};
-use om_frontend::program_of;
 use om_shell::ShellFault;
 use std::alloc::Global;
 use std::sync::Wait;
@@ -16,14 +17,16 @@ use std::thread::Threads;
 /// Tries schedules by chance, and answers the first that is bad, made short.
 ///
 /// A schedule is bad where a worker meets a fault, where no worker has a move and the initial task has not
-/// ended, or where that task ends and something else was printed than is wanted: what is expected, or what
-/// `run` alone leads to. Where `run` alone comes to no end within 100,000 steps and nothing is expected, any
-/// output will do. First `run` alone is judged, and then the schedule of each seed; `progress` is told before
-/// each seed. Schedules are tried on a machine. Before one is answered the debugger runs its script, and what
-/// that leaves is judged: the text is what it wrote.
+/// ended, or where that task ends and something else was printed than is wanted: what is expected, else what
+/// `run` alone leads to. Where `run` alone comes to no end within 100,000 steps and nothing is expected, it is
+/// what the first schedule prints that comes to an end. First `run` alone is judged, and then the schedule of
+/// each seed; `progress` is told before each seed, and how a bad one is made short. Schedules are tried on a
+/// machine. Before one is answered the debugger runs its script, and what that leaves is judged: the text is
+/// what it wrote.
 ///
-/// A hunt that finds nothing says that `run` alone is not bad, and nothing of schedules that it did not try.
-/// Faults are those of the debugger, and out of memory is H5.
+/// A hunt that finds nothing says that `run` alone is not bad, and with what outputs were compared. No clause
+/// says that each seed was tried, which schedule a seed leads to, or how many bad schedules the debugger did not
+/// find bad. Faults are those of the debugger, and out of memory is H5.
 pub fn hunt<H: Threads + Wait + Sync, P: Progress>(
     rt: &H,
     alloc: Global,
@@ -44,12 +47,13 @@ pub fn hunt<H: Threads + Wait + Sync, P: Progress>(
     if let Some(end) = end {
         return Ok(Hunted::Found(Found {
             seed: 0,
+            workers: aims.workers,
             blocks: Vec::new(alloc),
             script: commands,
             printed: text,
-            output: end.output,
-            wanted: wanted.text,
-            why: end.why,
+            end,
+            wanted,
+            unconfirmed: 0,
         }));
     }
     let ground = Ground {
@@ -58,81 +62,110 @@ pub fn hunt<H: Threads + Wait + Sync, P: Progress>(
         seeds: aims.seeds,
         wanted: &wanted,
     };
-    match find(rt, alloc, source, &ground, progress)? {
+    let sought = seek(&Field { rt, alloc, source }, &ground, progress)?;
+    match sought.found {
         Some(found) => Ok(Hunted::Found(found)),
         None => Ok(Hunted::Nothing {
             seeds: aims.seeds,
+            compared: sought.compared,
+            unconfirmed: sought.unconfirmed,
             printed: text,
         }),
     }
 }
 
-// The first bad schedule that a seed leads to.
-fn find<H: Threads + Wait + Sync, P: Progress>(
-    rt: &H,
-    alloc: Global,
-    source: &[u8],
+// What came of the schedules of seeds.
+#[derive(Drop)]
+struct Sought {
+    found: Option<Found>,
+    // With what outputs were compared, if they were.
+    compared: Option<Standard>,
+    // How many bad schedules the debugger did not find bad.
+    unconfirmed: u64,
+}
+
+// Tries the schedules of seeds.
+fn seek<H: Threads + Wait + Sync, P: Progress>(
+    field: &Field<'_, H>,
     ground: &Ground<'_>,
     progress: &mut P,
-) -> Result<Option<Found>, ShellFault>
+) -> Result<Sought, ShellFault>
     requires at_least_one { 0 < ground.now.workers }
     requires at_most_32 { ground.now.workers ≤ 32 }
-    ensures { IfOk result (λ found. IfSome found (IsFoundOn ground.now source.now)) }
+    ensures { IfOk result (IsSought ground.now field.now.source.now) }
 {
-    let mut chances = chances_over(alloc, source, ground.workers)?;
-    let mut behind = 0;
-    'schedules: for _ in 0..ground.seeds {
-        let Some(schedule) = chances.next_bad(alloc, ground, behind, progress)? else {
-            return Ok(None);
-        };
-        behind = schedule.seed;
-        match shown(rt, alloc, source, ground, schedule)? {
-            Some(found) => return Ok(Some(found)),
-            None => {}
+    let mut tries = Tries::over(field, ground.workers)?;
+    let sought = if ground.wanted.text.is_some() {
+        compare(field, ground, &mut tries, progress)
+    } else {
+        settle(field, ground, &mut tries, progress)
+    };
+    drop(tries);
+    sought
+}
+
+// Tries the schedules of seeds, where it is not known what is wanted. It is what the first of them prints that
+// comes to an end.
+fn settle<H: Threads + Wait + Sync, P: Progress>(
+    field: &Field<'_, H>,
+    ground: &Ground<'_>,
+    tries: &mut Tries,
+    progress: &mut P,
+) -> Result<Sought, ShellFault>
+    requires at_least_one { 0 < ground.now.workers }
+    requires at_most_32 { ground.now.workers ≤ 32 }
+    requires unknown { text_in ground.now.wanted.now.text ≡ None }
+    ensures { IfOk result (IsSought ground.now field.now.source.now) }
+{
+    match tries.next(field, ground, progress)? {
+        Tried::Bad(found) => Ok(tries.sought(Some(found), None)),
+        Tried::Nothing => Ok(tries.sought(None, None)),
+        Tried::Ends { seed, output } => {
+            let printed = Wanted {
+                text: Some(output),
+                standard: Standard::Seed(seed),
+            };
+            let settled = Ground {
+                workers: ground.workers,
+                steps: ground.steps,
+                seeds: ground.seeds,
+                wanted: &printed,
+            };
+            compare(field, &settled, tries, progress)
         }
     }
-    Ok(None)
 }
 
-// What tries schedules over a source. It was accepted before, so only memory can be short.
-fn chances_over(alloc: Global, source: &[u8], workers: u8) -> Result<Chances, ShellFault>
-    requires at_least_one { 1 ≤ workers }
-    requires at_most_32 { workers ≤ 32 }
+// Tries the schedules of later seeds, by what is wanted.
+fn compare<H: Threads + Wait + Sync, P: Progress>(
+    field: &Field<'_, H>,
+    ground: &Ground<'_>,
+    tries: &mut Tries,
+    progress: &mut P,
+) -> Result<Sought, ShellFault>
+    requires at_least_one { 0 < ground.now.workers }
+    requires at_most_32 { ground.now.workers ≤ 32 }
+    requires known { is_some (text_in ground.now.wanted.now.text) ≡ true }
+    ensures { IfOk result (IsComparedAfter ground.now field.now.source.now tries.old.seed) }
 {
-    match program_of(alloc, source) {
-        Ok(program) => Ok(Chances::new(alloc, program, workers)?),
-        Err(_) => Err(ShellFault::Memory),
+    let compared = Some(ground.wanted.standard);
+    match tries.next(field, ground, progress)? {
+        Tried::Bad(found) => Ok(tries.sought(Some(found), compared)),
+        Tried::Nothing => Ok(tries.sought(None, compared)),
+        Tried::Ends { .. } => unreachable!(),
     }
 }
 
-// What the debugger shows of a schedule, where that is bad.
-fn shown<H: Threads + Wait + Sync>(
-    rt: &H,
-    alloc: Global,
-    source: &[u8],
-    ground: &Ground<'_>,
-    schedule: Schedule,
-) -> Result<Option<Found>, ShellFault>
-    requires at_least_one { 0 < ground.now.workers }
-    requires at_most_32 { ground.now.workers ≤ 32 }
-    ensures { IfOk result (λ found. IfSome found (IsFoundOn ground.now source.now)) }
-{
-    let commands = script(alloc, &schedule.blocks)?;
-    let Ran { text, book } = run_over(rt, alloc, ground.workers, source, &commands)?;
-    let Some(book) = book else {
-        return Ok(None);
-    };
-    let Some(end) = end_of(alloc, book, ground.wanted)? else {
-        return Ok(None);
-    };
-    let wanted = ground.wanted.copy()?;
-    Ok(Some(Found {
-        seed: schedule.seed,
-        blocks: schedule.blocks,
-        script: commands,
-        printed: text,
-        output: end.output,
-        wanted,
-        why: end.why,
-    }))
+impl Tries {
+    // What came of them.
+    fn sought(&self, found: Option<Found>, compared: Option<Standard>) -> Sought
+        ensures found { result.found ≡ found }
+        ensures compared { result.compared ≡ compared }
+    {
+        Sought {
+            found,
+            compared,
+            unconfirmed: self.unconfirmed,
+        }
+    }
 }

@@ -1,2 +1,3 @@
+mod KnownLaws
 mod LineLaws
 mod PassLaws

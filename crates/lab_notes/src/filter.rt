@@ -7,6 +7,7 @@ ghost use Rattle.om_shell_commands.specs.Words.{words_of};
 ghost use Rattle.om_shell.specs.Lines.{HasNoLineEnd};
 ghost use Rattle.lab_text.specs.Tails.{IsNoted};
 ghost use Rattle.lab_notes.specs.Parts.{announced};
+ghost use Rattle.lab_notes.specs.Sources.{IsKnown};
 ghost use Rattle.lab_notes.specs.Passing.{BreaksOff, BreaksPart, GoesOn, PassesAll, PassesBeginning, PassesPart};
 
 use crate::names::Names;
@@ -173,7 +174,7 @@ fn pass_all<R: Read, W: Write>(
 /// the words of codes alone. The bytes that `output K bytes` announces are passed on as they are, and so is a
 /// last line without a line feed. Each part is written and flushed before more is read, so it works live.
 ///
-/// It reads to the end. Faults:
+/// It reads to the end, and says whether the source is accepted. Faults:
 /// - `Read` (H3): a read failed, or 2^32 reads were made.
 /// - `Write` (H4): a write or a flush failed.
 /// - `Memory` (H5): there was no memory, in whatever part.
@@ -182,16 +183,20 @@ pub fn annotate<R: Read, W: Write>(
     source: &[u8],
     reader: &mut R,
     writer: &mut W,
-) -> Result<(), ShellFault>
+) -> Result<bool, ShellFault>
     ensures passes_all { OnOk result
         (PassesAll (R.remaining reader.old) (R.remaining reader.new) (W.contents writer.old)
         (W.contents writer.new)) }
     ensures begun_on_error { OnErr result
         (PassesBeginning (R.remaining reader.old) (R.remaining reader.new) (W.contents writer.old)
         (W.contents writer.new)) }
+    ensures accepted { IfOk result (λ accepted. IsKnown source.now accepted) }
 {
     let names = Names::of(alloc, source)?;
-    pass_all(&names, &mut Waiting::new(alloc), reader, writer)
+    match pass_all(&names, &mut Waiting::new(alloc), reader, writer) {
+        Ok(()) => Ok(names.accepted.is_some()),
+        Err(fault) => Err(fault),
+    }
 }
 
 /// The bytes that were read and not yet passed on.

@@ -1,5 +1,8 @@
 //! What a source says of the answers of its session.
 
+ghost use Rattle.std.specs.Prelude.{is_some, IfOk};
+ghost use Rattle.lab_notes.specs.Sources.{IsKnown};
+
 use crate::function::{Function, functions_of};
 use om_code::Program;
 use om_frontend::program_of;
@@ -38,7 +41,9 @@ fn functions_in(alloc: Global, source: &[u8]) -> AllocResult<Vec<Function>> {
 }
 
 // A source that is accepted; `None` where it is refused.
-fn accepted_source(alloc: Global, source: &[u8]) -> AllocResult<Option<Accepted>> {
+fn accepted_source(alloc: Global, source: &[u8]) -> AllocResult<Option<Accepted>>
+    ensures { IfOk result (λ accepted. IsKnown source.now (is_some accepted)) }
+{
     match program_of(alloc, source) {
         Ok(program) => match functions_in(alloc, source) {
             Ok(functions) => Ok(Some(Accepted { program, functions })),
@@ -60,7 +65,9 @@ fn lines_of(alloc: Global, text: &[u8]) -> AllocResult<Vec<&[u8]>> {
 
 impl<'a> Names<'a> {
     /// What this source says. The only error is out of memory.
-    pub(crate) fn of(alloc: Global, source: &'a [u8]) -> AllocResult<Names<'a>> {
+    pub(crate) fn of(alloc: Global, source: &'a [u8]) -> AllocResult<Names<'a>>
+        ensures { IfOk result (λ names. IsKnown source.entry.now (is_some names.accepted)) }
+    {
         let accepted = accepted_source(alloc, source)?;
         match lines_of(alloc, source) {
             Ok(lines) => Ok(Names {
@@ -72,7 +79,7 @@ impl<'a> Names<'a> {
         }
     }
 
-    /// A line of an accepted source, from 1, without white space round it; no bytes where there is none.
+    /// A line of an accepted source, from 1, without white space around it; no bytes where there is none.
     pub(crate) fn source_line(&self, number: u64) -> &[u8] {
         if self.accepted.is_none() || number == 0 {
             return &[];

@@ -1,2 +1,4 @@
 pub mod Entries
+pub mod Numbers
+pub mod Remade
 pub mod Replays

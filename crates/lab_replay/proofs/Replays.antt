@@ -105,23 +105,23 @@ longer r old new l p change e is taken =
 
 -- ---- entries in turn
 
-record Then (r : Rules) (o : Option State) (f : State → Option State) (s : State) : Type 0 where
-  mid : State
-  first : o ≡ Some mid
-  rest : f mid ≡ Some s
+pub record Then (r : Rules) (o : Option State) (f : State → Option State) (s : State) : Type 0 where
+  pub mid : State
+  pub first : o ≡ Some mid
+  pub rest : f mid ≡ Some s
 
-then_by : (r : Rules) (o : Option State) (f : State → Option State) (s : State) → and_then o f ≡ Some s → Then r o f s
+pub then_by : (r : Rules) (o : Option State) (f : State → Option State) (s : State) → and_then o f ≡ Some s → Then r o f s
 then_by r None f s e = cc
 then_by r (Some t) f s e = record { mid = t; first = refl; rest = e }
 
-same_state : (s t : State) → Some s ≡ Some t → s ≡ t
+pub same_state : (s t : State) → Some s ≡ Some t → s ≡ t
 same_state s t e = ap (λ o. unwrap_or o s) e
 
 abbrev at_state : Rules → State → Entry → Transition
 at_state r s e = record { entry = e; footprint = (step_at r s (label_of e)).footprint }
 
 -- the transitions of entries, and of one more
-one_more : (r : Rules) (from s : State) (es : List Entry) (e : Entry) → replay_from r from (map label_of es) ≡ Some s
+pub one_more : (r : Rules) (from s : State) (es : List Entry) (e : Entry) → replay_from r from (map label_of es) ≡ Some s
     → with_footprints (es ++ e ∷ []) (steps_from r from (map label_of (es ++ e ∷ [])))
     ≡ with_footprints es (steps_from r from (map label_of es)) ++ at_state r s e ∷ []
 one_more r from s [] e h = ap (λ t. at_state r t e ∷ []) (same_state from s h)
@@ -151,14 +151,14 @@ next_made r from s last (x ∷ xs) e rest h k =
     sym (ap (λ o. and_then o (λ t. replay_from r t (map label_of (xs ++ e ∷ rest)))) y.first) ∙ k in
     next_made r y.mid s last xs e rest y.rest all
 
-replays_to : (r : Rules) (from : State) (ks : List UndoRecord) (now : State) → ReplaysTo r from ks now
+pub replays_to : (r : Rules) (from : State) (ks : List UndoRecord) (now : State) → ReplaysTo r from ks now
     → replay_from r from (map label_of (entries_of ks)) ≡ Some now
 replays_to r from [] now h = ap Some h
 replays_to r from (k ∷ ks) now h =
     ap (λ o. and_then o (λ t. replay_from r t (map label_of (entries_of ks)))) h.1 ∙ replays_to r h.0 ks now h.3
 
 -- the state of a history that was made again is the replay of the entries
-state_is : (r : Rules) (h : kept.History) (done : List Entry) (steps : List Traced) → IsRemade r h done steps
+pub state_is : (r : Rules) (h : kept.History) (done : List Entry) (steps : List Traced) → IsRemade r h done steps
     → replay r (map label_of done) ≡ Some (past_in h).state
 state_is r h done steps is =
     ap (λ ls. replay r ls) (sym is.labels) ∙ replays_to r r.start (past_in h).records (past_in h).state
@@ -169,18 +169,6 @@ pub can_be_made : (r : Rules) (h : kept.History) (done : List Entry) (steps : Li
     → replay r (map label_of (done ++ e ∷ rest)) ≡ Some last → CanBeMade r h (label_of e)
 can_be_made r h done steps e rest last is k =
     next_made r r.start (past_in h).state last done e rest (state_is r h done steps is) k
-
-pub remade_more : (r : Rules) (old new : kept.History) (done : List Entry) (steps : List Traced) (e : Entry)
-    (t : Traced) → IsRemade r old done steps → transition_of t ≡ transition_for r old e
-    → IsLonger r old new (label_of e) → IsRemade r new (done ++ e ∷ []) (steps ++ t ∷ [])
-remade_more r old new done steps e t is noted more = record {
-  held = more.held;
-  labels = more.labels ∙ ap (λ ls. ls ++ label_of e ∷ []) is.labels ∙ sym (map-append label_of done (e ∷ []));
-  made = omega (arith, more.made, is.made, length-append done (e ∷ []));
-  noted = map-append transition_of steps (t ∷ []) ∙ ap (λ ts. ts ++ transition_of t ∷ []) is.noted
-      ∙ ap (λ x. transitions r done ++ x ∷ []) noted
-      ∙ sym (one_more r r.start (past_in old).state done e (state_is r old done steps is));
-}
 
 -- ---- by an index
 

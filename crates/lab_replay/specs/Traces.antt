@@ -13,6 +13,7 @@ use Rattle.om_task.specs.declared.planned.Plan.{Plan}
 use Rattle.om_undo.specs.Machines.{IsPlan, MachineView, rules_for}
 use Rattle.lab_graph.specs.declared.traced.Traced.{Traced}
 use Rattle.lab_graph.specs.Pictures.{touched}
+use Rattle.lab_replay.specs.Said.{AreSaidFrom}
 
 -- an entry with what its step touched; what it did is left out
 abbrev pub transition_of : Traced → Transition
@@ -61,6 +62,7 @@ pub record IsRemade (r : Rules) (h : History) (done : List Entry) (steps : List 
   pub labels : map label_of (history_in h).entries ≡ map label_of done
   pub made : (past_in h).made ≡ length done
   pub noted : map transition_of steps ≡ transitions r done
+  pub said : AreSaidFrom r r.start done steps
 
 -- the step of an entry was made again where a history of a machine's program stands
 abbrev pub Remakes : MachineView → (old new : History) → Entry → Type 0

@@ -1,11 +1,13 @@
-//! omplab draw: makes the steps of a history once more: what each touched, and its instruction and values in words.
+//! omplab draw: the steps of a history: what each touched, and in words what it did, for which it is made once more.
 //!
-//! `trace` makes the steps again from the start (`replay`). It answers the `Traced` steps that lab_graph
-//! draws, each with what it touched at its place in the replay. `words` has the instruction, the variable and
-//! the value in words, and `variable` the variable that an instruction names.
+//! `trace` answers the `Traced` steps that lab_graph draws. What each touched is read from the machine's
+//! records. For what it did, all are made again from the start (`replay`): `words` has the instruction and
+//! the variable, `variable` finds the variable that an instruction names, and `value` has the number that a
+//! step put, or the fault that it met.
 #![tactic(auto)]
 
 mod replay;
+mod value;
 mod variable;
 mod words;
 

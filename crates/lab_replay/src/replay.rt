@@ -6,10 +6,13 @@ ghost use Rattle.om_undo_history.specs.Commands.{Rise};
 ghost use Rattle.om_undo_history.specs.Runs.{label_of};
 ghost use Rattle.om_undo_history.specs.Pasts.{past_in, IsHeld};
 ghost use Rattle.om_undo.specs.Machines.{IsPlan, footprint_in, rules_for};
+ghost use Rattle.lab_replay.specs.Said.{AreSaid, IsFaultOf, IsSaid};
 ghost use Rattle.lab_replay.specs.Traces.{CanBeMade, CanReplay, HasStep, IsForStep, IsTraced, Remakes, footprint_for, replayed, traced, transitions_of};
 
+use crate::value::fault_in;
 use crate::words::{Spoken, Words};
 use lab_graph::Traced;
+use om_code::frame::Fault;
 use om_seq::AllocResult;
 use om_state::Label;
 use om_task::laws::low_counters;
@@ -21,10 +24,13 @@ use om_undo_history::History;
 use std::alloc::Global;
 
 /// The steps of a machine's history, each with what it touched and did at its place in the replay. What it
-/// touched is what the machine keeps. For the words of what they did they are made again, each once. The
+/// touched is what the machine keeps. For the words of what they did they are made again, each once. It is
+/// said of each whether it met a fault, and else the number that it put into a variable, if it put one. The
 /// only error is out of memory.
 pub fn trace<'m>(alloc: Global, machine: &'m Machine) -> AllocResult<Vec<Traced<'m>>>
-    ensures { IfOk result (λ steps. traced steps.items ≡ transitions_of machine.now) }
+    ensures touched { IfOk result (λ steps. traced steps.items ≡ transitions_of machine.now) }
+    ensures said { IfOk result
+        (λ steps. AreSaid machine.now machine.now.history.entries steps.items) }
 {
     let entries = machine.history(alloc)?;
     retraced(alloc, machine, &entries)
@@ -40,7 +46,9 @@ fn retraced<'m>(
     requires numbered { Rise 0 machine.now.history.entries machine.now.history.made }
     requires few { length entries.now < 2 ^ 63 }
     requires replayed { CanReplay (rules_for machine.now) entries.now }
-    ensures { IfOk result (λ steps. traced steps.items ≡ replayed machine.now entries.now) }
+    ensures touched { IfOk result
+        (λ steps. traced steps.items ≡ replayed machine.now entries.now) }
+    ensures said { IfOk result (λ steps. AreSaid machine.now entries.now steps.items) }
 {
     steady_rules();
     shaped_rules();
@@ -69,6 +77,7 @@ fn traced<'m>(
     requires touched { footprint_in machine.now entry.now.serial
         ≡ Some (footprint_for (rules_for machine.now) history.old (label_of entry.now)) }
     ensures noted { IfOk result (IsTraced machine.now history.old entry.now) }
+    ensures said { IfOk result (IsSaid machine.now history.old entry.now) }
     ensures longer { OnOk result (Remakes machine.now history.old history.new entry.now) }
 {
     let Some(footprint) = machine.footprint(entry.serial) else {
@@ -78,13 +87,13 @@ fn traced<'m>(
     let plan = planned(alloc, machine, history, &label)?;
     let words = Words::of(alloc, machine.program(), history.store(), &label, &plan)?;
     match remade(alloc, history, &label, plan) {
-        Ok(()) => {
+        Ok(fault) => {
             let Spoken {
                 instruction,
                 variable,
                 value,
                 is_fault,
-            } = words.behind(history.store(), label.worker)?;
+            } = words.spoken(history.store(), label.worker, fault)?;
             Ok(Traced {
                 entry: *entry,
                 footprint,
@@ -124,16 +133,23 @@ fn planned(alloc: Global, machine: &Machine, history: &History, label: &Label) -
     )
 }
 
-// Takes the step of a plan. When out of memory, nothing is said of the history.
-fn remade(alloc: Global, history: &mut History, label: &Label, plan: Plan) -> AllocResult<()>
+// Takes the step of a plan, and answers the fault that it met. When out of memory, nothing is said of the
+// history.
+fn remade(
+    alloc: Global,
+    history: &mut History,
+    label: &Label,
+    plan: Plan,
+) -> AllocResult<Option<Fault>>
     requires few_made { (past_in history.old).made < 2 ^ 63 }
     requires planned { IsForStep history.old label.now plan }
-    ensures { OnOk result (HasStep history.old history.new label.now plan) }
+    ensures taken { OnOk result (HasStep history.old history.new label.now plan) }
+    ensures fault { IfOk result (IsFaultOf history.old label.now plan) }
 {
     match plan {
         Plan::Updates(change) => {
-            let _reply = history.take(alloc, label, change)?;
-            Ok(())
+            let reply = history.take(alloc, label, change)?;
+            Ok(fault_in(&reply))
         }
         Plan::Blocked(_) => unreachable!(),
         Plan::Ended => unreachable!(),

@@ -1,14 +1,17 @@
 //! What a step did, in words: its instruction, the variable that it names, and a value.
 
+ghost use Rattle.std.specs.Prelude.{◌≡◌, is_some, IfOk};
+ghost use Rattle.lab_replay.specs.Said.{TellsNumber, number_by};
+
+use crate::value::{number_put, push_value};
 use crate::variable::{local_at, place_of, push_index, push_variable};
-use lab_help::fault_words;
-use om_code::frame::{Cell, Fault, Operand};
+use om_code::frame::Fault;
 use om_code::instruction::Place;
 use om_code::{Instr, Program};
 use om_memory::{Control, Frame, Memory};
 use om_seq::{AllocResult, Seq};
-use om_shell_commands::{push_number, push_numbered};
-use om_state::{Label, Update, Val};
+use om_shell_commands::push_numbered;
+use om_state::Label;
 use om_task::{Choice, Plan};
 use std::alloc::Global;
 
@@ -25,18 +28,19 @@ pub(crate) struct Spoken {
     pub(crate) is_fault: bool,
 }
 
-/// The words of a step: its instruction, and the variable and the value that it has.
+/// The words of a step: its instruction, and the variable and the number that it has.
 #[derive(Drop)]
 pub(crate) struct Words {
     name: Vec<u8>,
     variable: Vec<u8>,
-    value: Vec<u8>,
-    // Whether the step puts a value into a variable, which stands in the words.
-    is_put: bool,
+    // The variable or region that the instruction names, or the task that is started.
+    named: Vec<u8>,
+    // The number that the step puts into a variable, if it puts one.
+    number: Option<i32>,
 }
 
 impl Words {
-    /// The name of the instruction of a label's step, with the variable that it names and the value
+    /// The name of the instruction of a label's step, with the variable that it names and the number
     /// that it puts there, by the store before it and its plan. The only error is out of memory.
     pub(crate) fn of(
         alloc: Global,
@@ -44,45 +48,47 @@ impl Words {
         store: &Memory,
         label: &Label,
         plan: &Plan,
-    ) -> AllocResult<Words> {
+    ) -> AllocResult<Words>
+        ensures { IfOk result (λ words. words.number ≡ number_by plan.now) }
+    {
         let mut name = Vec::new(alloc);
         let mut variable = Vec::new(alloc);
-        let mut value = Vec::new(alloc);
+        let mut named = Vec::new(alloc);
         if let Choice::Start(task) = &label.choice {
             name.extend_from_slice(b"START")?;
-            task.text(&mut value)?;
+            task.text(&mut named)?;
         } else if let Some(Control::Running(stack)) = store.control(label.worker) {
-            push_instruction(&mut name, &mut value, program, &stack.top.frame, plan)?;
+            push_instruction(&mut name, &mut named, program, &stack.top.frame, plan)?;
             push_variable(&mut variable, program, &stack.top.frame, plan)?;
-        }
-        let number = number_put(plan);
-        if let Some(number) = number {
-            push_number_behind(&mut value, number)?;
         }
         Ok(Words {
             name,
             variable,
-            value,
-            is_put: number.is_some(),
+            named,
+            number: number_put(plan),
         })
     }
 
-    /// What is said of the step, by the store behind it: the fault that it met, or else its value, which
-    /// is the one that it put into a variable, or else the one that it left on its worker's stack. The
-    /// only error is out of memory.
-    pub(crate) fn behind(self, store: &Memory, worker: u8) -> AllocResult<Spoken> {
+    /// What is said of the step, by the store after it and the fault that it met: the fault, or else its
+    /// value, which is the number that it put into a variable, or else the one that it left on its
+    /// worker's stack. The only error is out of memory.
+    pub(crate) fn spoken(
+        self,
+        store: &Memory,
+        worker: u8,
+        fault: Option<Fault>,
+    ) -> AllocResult<Spoken>
+        ensures is_fault { IfOk result (λ spoken. spoken.is_fault ≡ is_some fault) }
+        ensures value { IfOk result (λ spoken. TellsNumber self.number fault spoken.value) }
+    {
         let Words {
             name,
             variable,
-            mut value,
-            is_put,
+            named,
+            number,
         } = self;
-        let fault = fault_met(store, worker);
-        if let Some(fault) = fault {
-            push_fault(&mut value, fault)?;
-        } else if !is_put {
-            push_top(&mut value, store, worker)?;
-        }
+        let mut value = named;
+        push_value(&mut value, store, worker, number, fault)?;
         Ok(Spoken {
             instruction: Seq::of(name),
             variable: Seq::of(variable),
@@ -92,29 +98,11 @@ impl Words {
     }
 }
 
-// The fault that a worker met, if it did.
-fn fault_met(store: &Memory, worker: u8) -> Option<Fault> {
-    let Some(Control::Faulted(fault, _)) = store.control(worker) else {
-        return None;
-    };
-    Some(*fault)
-}
-
-// Appends a fault in words, behind a name with `: ` between them.
-fn push_fault(text: &mut Vec<u8>, fault: Fault) -> AllocResult<()> {
-    if !text.is_empty() {
-        text.extend_from_slice(b": ")?;
-    }
-    push_numbered(text, b"F", fault.number())?;
-    text.extend_from_slice(b" ")?;
-    text.extend_from_slice(fault_words(fault).as_bytes())
-}
-
 // Appends the name of the instruction that a frame is at, and the variable or region that it names, by
 // the plan of its step.
 fn push_instruction(
     name: &mut Vec<u8>,
-    value: &mut Vec<u8>,
+    named: &mut Vec<u8>,
     program: &Program,
     frame: &Frame,
     plan: &Plan,
@@ -126,14 +114,14 @@ fn push_instruction(
         name.extend_from_slice(word)?;
     }
     if let Some(place) = place_of(instruction) {
-        return push_place(value, program, frame, place, plan);
+        return push_place(named, program, frame, place, plan);
     }
     let (Instr::AskCritical(lock) | Instr::EnterCritical(lock) | Instr::LeaveCritical(lock)) =
         instruction
     else {
         return Ok(());
     };
-    push_lock(value, program, lock)
+    push_lock(named, program, lock)
 }
 
 // Appends the name of a critical region, where it has one.
@@ -178,49 +166,6 @@ fn push_place(
             None => push_numbered(text, b"slot ", slot),
         },
     }
-}
-
-// The first number that one of these updates puts into a variable, if one does.
-fn number_among(updates: &[Update]) -> Option<i32> {
-    for update in updates {
-        if let Update::Put(Val::Cell(Cell::Int(number))) = update {
-            return Some(*number);
-        }
-    }
-    None
-}
-
-// The number that the step of a plan puts into a variable, if it puts one.
-fn number_put(plan: &Plan) -> Option<i32> {
-    let Plan::Updates(change) = plan else {
-        return None;
-    };
-    // No cells that are put at once get a number: they become unset, or dead.
-    let (first, _, last) = change.updates.parts();
-    match number_among(first) {
-        Some(number) => Some(number),
-        None => number_among(last),
-    }
-}
-
-// Appends a number, behind a name with ` = ` between them.
-fn push_number_behind(text: &mut Vec<u8>, number: i32) -> AllocResult<()> {
-    if text.is_empty() {
-        push_number(text, number)
-    } else {
-        push_numbered(text, b" = ", number)
-    }
-}
-
-// Appends the number on top of the stack of a worker's running frame, if there is one.
-fn push_top(text: &mut Vec<u8>, store: &Memory, worker: u8) -> AllocResult<()> {
-    let Some(Control::Running(stack)) = store.control(worker) else {
-        return Ok(());
-    };
-    if let Some(Operand::Int(number)) = stack.top.frame.operands.get(0) {
-        push_number_behind(text, *number)?;
-    }
-    Ok(())
 }
 
 // The name of an instruction of C; `None` for those of OpenMP.

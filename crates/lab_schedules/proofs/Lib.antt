@@ -1,4 +1,2 @@
 pub mod Texts
-pub mod Moves
 pub mod Undone
-pub mod Judging

@@ -1,5 +1,4 @@
 -- The text of a report.
-use Rattle.std.specs.Prelude.{Bool}
 use Rattle.std.specs.Prelude.{ℕ, List, [], ◌∷◌, ◌++◌, ◌==◌, Option, None, Some, if◌then◌else◌, codes, decimal, length}
 use Rattle.om_code.specs.declared.frame.Fault.{Fault}
 use Rattle.om_code.specs.Faults.{fault_number}
@@ -9,10 +8,17 @@ use Rattle.lab_schedules.specs.declared.block.Block.TheVariants as block
 use Rattle.lab_schedules.specs.declared.hunted.Found.{Found}
 use Rattle.lab_schedules.specs.declared.hunted.Hunted.{Hunted}
 use Rattle.lab_schedules.specs.declared.hunted.Hunted.TheVariants as hunted
-use Rattle.lab_schedules.specs.declared.judge.Badness.{Badness}
-use Rattle.lab_schedules.specs.declared.judge.Badness.TheVariants as badness
+use Rattle.lab_judge.specs.declared.judge.Badness.{Badness}
+use Rattle.lab_judge.specs.declared.judge.Badness.TheVariants as badness
+use Rattle.lab_judge.specs.declared.judge.Standard.{Standard}
+use Rattle.lab_judge.specs.declared.judge.Standard.TheVariants as standard
+use Rattle.lab_judge.specs.declared.judge.Wanted.{Wanted}
+use Rattle.lab_judge.specs.declared.outcome.End.{End}
+use Rattle.lab_judge.specs.declared.waits.Awaited.{Awaited}
+use Rattle.lab_judge.specs.declared.waits.Awaited.TheVariants as awaited
+use Rattle.lab_judge.specs.declared.waits.Wait.{Wait}
 use Rattle.om_shell_commands.specs.Lists.{joined}
-use Rattle.lab_schedules.specs.Texts.{text_in}
+use Rattle.lab_judge.specs.Texts.{text_in}
 
 -- a byte in quotes: line ends, quotes and backslashes stand behind a backslash
 abbrev pub byte_text : ℕ → List ℕ
@@ -30,21 +36,25 @@ quoted bytes = (34 ∷ []) ++ joined byte_text bytes ++ (34 ∷ [])
 abbrev pub seed_text : ℕ → List ℕ
 seed_text seed = if seed == 0 then codes "run: " else codes "seed " ++ decimal seed ++ codes ": "
 
--- what stands before what was wanted: that `run` prints it, or that it was told
-abbrev pub before_wanted : Bool → List ℕ
-before_wanted by_run = if by_run then codes ", where `run` prints " else codes ", wanted "
+-- what stands before what was wanted: that it was told, or what prints it
+abbrev pub before_wanted : Standard → List ℕ
+before_wanted standard.Told = codes ", wanted "
+before_wanted standard.Run = codes ", where `run` prints "
+before_wanted (standard.Seed seed) = codes ", where seed " ++ decimal seed ++ codes " prints "
 
 -- what was wanted
-abbrev pub told_text : Bool → List ℕ → List ℕ
-told_text by_run wanted = before_wanted by_run ++ quoted wanted
+abbrev pub told_text : Standard → List ℕ → List ℕ
+told_text by wanted = before_wanted by ++ quoted wanted
 
 -- what was wanted, where that is known
-abbrev pub wanted_text : Bool → Option (List ℕ) → List ℕ
-wanted_text by_run (Some wanted) = told_text by_run wanted
-wanted_text by_run None = []
+abbrev pub wanted_text : Standard → Option (List ℕ) → List ℕ
+wanted_text by (Some wanted) = told_text by wanted
+wanted_text by None = []
 
-abbrev pub outputs_text : Bool → List ℕ → Option (List ℕ) → List ℕ
-outputs_text by_run output wanted = codes "printed " ++ quoted output ++ wanted_text by_run wanted
+-- what was printed, and what was wanted
+abbrev pub outputs_text : List ℕ → Wanted → List ℕ
+outputs_text output wanted =
+    codes "printed " ++ quoted output ++ wanted_text wanted.standard (text_in wanted.text)
 
 abbrev pub of_worker : ℕ → List ℕ
 of_worker worker = codes " of worker " ++ decimal worker
@@ -55,19 +65,46 @@ in_line line = codes " in line " ++ decimal line
 abbrev pub fault_words : Fault → ℕ → ℕ → List ℕ
 fault_words fault worker line = codes "fault F" ++ decimal (fault_number fault) ++ of_worker worker ++ in_line line
 
--- what is bad, by what was printed and what was wanted
-abbrev pub badness_text : Bool → Badness → List ℕ → Option (List ℕ) → List ℕ
-badness_text by_run badness.Output output wanted = outputs_text by_run output wanted
-badness_text by_run (badness.Fault fault worker line) output wanted = fault_words fault worker line
-badness_text by_run badness.Stuck output wanted = codes "stuck: no worker has a move"
+-- the name of a critical region; nothing for the unnamed one
+abbrev pub name_words : List ℕ → List ℕ
+name_words name = if length name == 0 then [] else codes " (" ++ name ++ codes ")"
 
--- what is bad of what was found
-abbrev pub bad_text : Bool → Found → List ℕ
-bad_text by_run found = badness_text by_run found.why found.output.items (text_in found.wanted)
+abbrev pub held_by : ℕ → List ℕ
+held_by holder = codes ", held by worker " ++ decimal holder
 
--- what was printed in what was found, and what was wanted
-abbrev pub prints_text : Bool → Found → List ℕ
-prints_text by_run found = outputs_text by_run found.output.items (text_in found.wanted)
+abbrev pub lock_words : List ℕ → ℕ → List ℕ
+lock_words name holder = codes " for critical" ++ name_words name ++ held_by holder
+
+-- what a worker waits for
+abbrev pub awaited_text : Awaited → List ℕ
+awaited_text awaited.Barrier = codes " at a barrier"
+awaited_text (awaited.Lock name holder) = lock_words name.items holder
+awaited_text awaited.Children = codes " for tasks that it made"
+awaited_text (awaited.Worker worker) = codes " for worker " ++ decimal worker
+awaited_text awaited.Group = codes " for tasks of its taskgroup"
+
+abbrev pub waits_in : ℕ → List ℕ
+waits_in line = codes " waits in line " ++ decimal line
+
+-- who waits in which line, and for what
+abbrev pub wait_text : Wait → List ℕ
+wait_text w = codes "; worker " ++ decimal w.worker ++ waits_in w.line ++ awaited_text w.what
+
+abbrev pub stuck_text : List Wait → List ℕ
+stuck_text waits = codes "stuck: no worker has a move" ++ joined wait_text waits
+
+-- what is bad of an end, by what was wanted
+abbrev pub badness_text : Badness → End → Wanted → List ℕ
+badness_text badness.Output end wanted = outputs_text end.output.items wanted
+badness_text (badness.Fault fault worker line) end wanted = fault_words fault worker line
+badness_text badness.Stuck end wanted = stuck_text end.waits.items
+
+abbrev pub bad_text : End → Wanted → List ℕ
+bad_text end wanted = badness_text end.why end wanted
+
+-- the seed, and what is bad
+abbrev pub first_text : ℕ → End → Wanted → List ℕ
+first_text seed end wanted = seed_text seed ++ bad_text end wanted
 
 -- so many steps of a worker
 abbrev pub steps_words : ℕ → ℕ → List ℕ
@@ -81,27 +118,69 @@ abbrev pub block_words : Block → List ℕ
 block_words (block.Steps worker count) = steps_words worker count
 block_words (block.Start worker task) = start_words worker task
 
+-- the word after a number of blocks
+abbrev pub blocks_word : ℕ → List ℕ
+blocks_word count = if count == 1 then codes " block: " else codes " blocks: "
+
 abbrev pub length_text : List Block → List ℕ
-length_text blocks = codes "shortened to " ++ decimal (length blocks) ++ codes " blocks: "
+length_text blocks = codes "shortened to " ++ decimal (length blocks) ++ blocks_word (length blocks)
     ++ joined block_words blocks ++ codes "then `run`\n"
 
+-- how many workers the script is for
+abbrev pub threads_text : ℕ → List ℕ
+threads_text workers = codes "run the script with --threads " ++ decimal workers ++ codes "\n"
+
+abbrev pub some_unconfirmed : ℕ → List ℕ
+some_unconfirmed count = codes "bad schedules that the debugger did not confirm: " ++ decimal count ++ codes "\n"
+
+-- how many bad schedules the debugger did not find bad, where there were some
+abbrev pub unconfirmed_text : ℕ → List ℕ
+unconfirmed_text count = if count == 0 then [] else some_unconfirmed count
+
 -- what was found, in words
-abbrev pub words_text : Bool → Found → List ℕ
-words_text by_run found = seed_text found.seed
-    ++ bad_text by_run found ++ codes "\n" ++ length_text found.blocks.items
+abbrev pub words_text : Found → List ℕ
+words_text found = first_text found.seed found.end found.wanted ++ codes "\n" ++ length_text found.blocks.items
+    ++ threads_text found.workers ++ unconfirmed_text found.unconfirmed
 
 -- the words, an empty line, and the script
-abbrev pub found_text : Bool → Found → List ℕ
-found_text by_run found = words_text by_run found ++ codes "\n" ++ found.script.items
+abbrev pub found_text : Found → List ℕ
+found_text found = words_text found ++ codes "\n" ++ found.script.items
 
 abbrev pub limits_text : List ℕ
 limits_text = codes "These are not all schedules, " ++ codes "and this is no race detector.\n"
 
-abbrev pub nothing_text : ℕ → List ℕ
-nothing_text seeds = codes "nothing bad in the schedules of " ++ decimal seeds ++ codes " seeds\n" ++ limits_text
+-- how many seeds there were
+abbrev pub several_seeds : ℕ → List ℕ
+several_seeds seeds = codes "nothing bad in the schedules of " ++ decimal seeds ++ codes " seeds\n"
 
--- what came of a hunt in which what is wanted is what `run` prints, or what was told
-abbrev pub report_text : Bool → Hunted → List ℕ
-report_text by_run (hunted.Refused line) = line.items
-report_text by_run (hunted.Nothing seeds printed) = nothing_text seeds
-report_text by_run (hunted.Found found) = found_text by_run found
+abbrev pub seed_words : ℕ → List ℕ
+seed_words seeds = if seeds == 1 then codes "nothing bad in the schedule of 1 seed\n" else several_seeds seeds
+
+abbrev pub of_seed : ℕ → List ℕ
+of_seed seed = codes "that of seed " ++ decimal seed
+
+-- they were compared with what a seed's schedule printed
+abbrev pub compared_with : ℕ → List ℕ
+compared_with seed = codes "`run` came to no end: outputs were compared with " ++ of_seed seed ++ codes "\n"
+
+-- there was nothing to compare with
+abbrev pub not_compared : List ℕ
+not_compared = codes "`run` came to no end, and no seed did: "
+    ++ codes "no output was compared; give more --steps\n"
+
+-- with what outputs were compared, where that is not what was told or what `run` prints
+abbrev pub compared_text : Option Standard → List ℕ
+compared_text (Some standard.Told) = []
+compared_text (Some standard.Run) = []
+compared_text (Some (standard.Seed seed)) = compared_with seed
+compared_text None = not_compared
+
+abbrev pub nothing_text : ℕ → Option Standard → ℕ → List ℕ
+nothing_text seeds compared unconfirmed =
+    seed_words seeds ++ compared_text compared ++ unconfirmed_text unconfirmed ++ limits_text
+
+-- what came of a hunt
+abbrev pub report_text : Hunted → List ℕ
+report_text (hunted.Refused line) = line.items
+report_text (hunted.Nothing seeds compared unconfirmed printed) = nothing_text seeds compared unconfirmed
+report_text (hunted.Found found) = found_text found

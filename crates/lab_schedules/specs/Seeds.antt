@@ -1,12 +1,11 @@
--- Which seed led to a schedule.
+-- Which seeds schedules are of.
 use Rattle.std.specs.Prelude.{◌<◌, ◌≤◌, ℕ}
-use Rattle.lab_schedules.specs.declared.seeds.Ground.{Ground}
 use Rattle.lab_schedules.specs.declared.seeds.Schedule.{Schedule}
 
 -- the schedule is of a later seed than this one
-abbrev pub LiesBehind : ℕ → Schedule → Type 0
-LiesBehind seed schedule = seed < schedule.seed
+abbrev pub LiesAfter : ℕ → Schedule → Type 0
+LiesAfter seed schedule = seed < schedule.seed
 
--- the schedule's seed is not above the last seed that is tried
-abbrev pub IsOfSeed : Ground → Schedule → Type 0
-IsOfSeed g schedule = schedule.seed ≤ g.seeds
+-- the schedule is of one of so many seeds
+abbrev pub LiesWithin : ℕ → Schedule → Type 0
+LiesWithin seeds schedule = schedule.seed ≤ seeds

@@ -20,19 +20,19 @@ pub(crate) fn without(
     Ok(rest)
 }
 
-/// The blocks with one of them moved behind another.
+/// The blocks with one of them moved to after another.
 pub(crate) fn moved(
     alloc: Global,
     blocks: &[Block],
     one: usize,
-    behind: usize,
+    after: usize,
 ) -> AllocResult<Vec<Block>> {
     let mut others = Vec::new(alloc);
     for (i, block) in blocks.iter().enumerate() {
         if i != one {
             push_block(&mut others, block)?;
         }
-        if i == behind {
+        if i == after {
             push_nth(&mut others, blocks, one)?;
         }
     }

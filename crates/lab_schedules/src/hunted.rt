@@ -1,7 +1,7 @@
 //! What a hunt looks for, and what comes of it.
 
 use crate::block::Block;
-use crate::judge::Badness;
+use lab_judge::{End, Standard, Wanted};
 
 /// What a hunt looks for, and how long.
 #[derive(Clone, Copy)]
@@ -21,6 +21,13 @@ pub struct Aims<'a> {
 pub trait Progress {
     /// The schedule of this seed is tried next. Seeds are counted from 1, up to `seeds`.
     fn tell(&mut self, seed: u64, seeds: u64);
+
+    /// The schedule of a seed is bad, as these words say: the first line of the report, without its end. The
+    /// schedule is made short next.
+    fn found(&mut self, words: &[u8]);
+
+    /// A shorter schedule was tried in place of the bad one, which has so many blocks now.
+    fn shortens(&mut self, blocks: usize);
 }
 
 /// A bad schedule.
@@ -28,18 +35,20 @@ pub trait Progress {
 pub struct Found {
     /// The seed that led to it, from 1; 0 where `run` alone is bad.
     pub seed: u64,
-    /// The schedule, made short. Behind it `run` makes the steps.
+    /// How many workers there were, 1 to 32.
+    pub workers: u8,
+    /// The schedule, made short. After it `run` makes the steps.
     pub blocks: Vec<Block>,
     /// It as commands of ompback, of which the last two let `run` finish and show what was printed.
     pub script: Vec<u8>,
     /// All that ompback answers to the script.
     pub printed: Vec<u8>,
-    /// What the program printed there.
-    pub output: Vec<u8>,
-    /// What it had to print, where that is known.
-    pub wanted: Option<Vec<u8>>,
-    /// What is bad about it.
-    pub why: Badness,
+    /// What it comes to.
+    pub end: End,
+    /// What the program had to print.
+    pub wanted: Wanted,
+    /// How many bad schedules were tried before it that the debugger did not find bad.
+    pub unconfirmed: u64,
 }
 
 /// What came of a hunt.
@@ -47,9 +56,17 @@ pub struct Found {
 pub enum Hunted {
     /// The source is refused, by this line.
     Refused(Vec<u8>),
-    /// No bad schedule was found in so many seeds. That `run` alone is not bad is proved, and nothing of the
-    /// seeds. The text is what ompback answers where `run` makes all steps.
-    Nothing { seeds: u64, printed: Vec<u8> },
+    /// No bad schedule was found.
+    Nothing {
+        /// How many seeds there were. That `run` alone is not bad is proved, and nothing of the seeds.
+        seeds: u64,
+        /// What outputs were compared with; `None` where no output was, as no schedule came to an end.
+        compared: Option<Standard>,
+        /// How many bad schedules were tried that the debugger did not find bad.
+        unconfirmed: u64,
+        /// What ompback answers where `run` makes all steps.
+        printed: Vec<u8>,
+    },
     /// This schedule is bad.
     Found(Found),
 }

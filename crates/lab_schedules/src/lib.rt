@@ -5,8 +5,7 @@
 //! - `Chance` gives the numbers of a seed, and `wander` makes a schedule of them. `player` plays one over a
 //!   machine, which it winds back (`trial`). `seeds` does this for one seed after the other, all on one
 //!   machine.
-//! - `judge` says whether what is left is bad (`Badness`), and `outcome` says it of a book. `shorten` drops
-//!   and joins blocks by `edits`.
+//! - lab_judge says whether what is left is bad. `shorten` drops and joins blocks by `edits`.
 //! - `commands` writes a schedule as commands. `report` writes the report of what was found (`hunted`).
 #![tactic(auto)]
 
@@ -14,8 +13,6 @@ mod block;
 mod commands;
 mod edits;
 mod hunted;
-mod judge;
-mod outcome;
 mod player;
 mod report;
 mod seeds;
@@ -26,7 +23,5 @@ mod wander;
 pub use block::Block;
 pub use commands::script;
 pub use hunted::{Aims, Found, Hunted, Progress};
-pub use judge::{Badness, Wanted};
-pub use outcome::{Alone, End, alone_of, end_of};
 pub use report::push_report;
 pub use seeds::{Chances, Ground, Schedule};

@@ -1,17 +1,18 @@
 //! The schedules of seeds, up to the first that is bad.
 
 ghost use Rattle.std.specs.Prelude.{◌≡◌, ◌≤◌, IfOk, IfSome};
-ghost use Rattle.lab_schedules.specs.Seeds.{IsOfSeed, LiesBehind};
+ghost use Rattle.lab_schedules.specs.Seeds.{LiesAfter, LiesWithin};
 ghost use Rattle.om_undo.specs.Machines.{at_start};
 
 use crate::block::Block;
 use crate::commands::MOST_STEPS;
 use crate::hunted::Progress;
-use crate::judge::Wanted;
 use crate::player::Player;
+use crate::report::first_line;
 use crate::shorten::Search;
 use crate::trial::finish;
 use crate::wander::wander;
+use lab_judge::{Badness, Wanted, ended, has_ended};
 use om_code::Program;
 use om_seq::AllocResult;
 use std::alloc::Global;
@@ -36,6 +37,8 @@ pub struct Schedule {
     pub seed: u64,
     /// The steps before those that `run` makes.
     pub blocks: Vec<Block>,
+    /// Whether it was found bad; else it comes to an end.
+    pub is_bad: bool,
 }
 
 /// What tries schedules over a program. Each play first takes back all steps that stand.
@@ -63,24 +66,31 @@ impl Chances {
         Ok(Chances { player })
     }
 
-    /// Tries the schedule of each seed behind this one, and answers the first that is bad, made short.
+    /// Tries the schedule of each seed after this one, and answers the first that is bad, made short. Where it is
+    /// not known what is wanted, a schedule that comes to an end is answered too, as it is.
     ///
-    /// `progress` is told before each. Its only error is out of memory.
-    pub fn next_bad<P: Progress>(
+    /// `progress` is told before each, and how a bad one is made short. Its only error is out of memory.
+    pub fn next<P: Progress>(
         &mut self,
         alloc: Global,
         ground: &Ground<'_>,
-        behind: u64,
+        after: u64,
         progress: &mut P,
     ) -> AllocResult<Option<Schedule>>
-        ensures lies_behind { IfOk result (λ found. IfSome found (LiesBehind behind)) }
-        ensures is_a_seed { IfOk result (λ found. IfSome found (IsOfSeed ground.now)) }
+        ensures lies_after { IfOk result (λ found. IfSome found (LiesAfter after)) }
+        ensures lies_within { IfOk result (λ found. IfSome found (LiesWithin ground.now.seeds)) }
     {
-        'seeds: for before in behind..ground.seeds {
+        'seeds: for before in after..ground.seeds {
             let seed = before + 1;
             progress.tell(seed, ground.seeds);
-            match bad_blocks(alloc, &mut self.player, ground, seed)? {
-                Some(blocks) => return Ok(Some(Schedule { seed, blocks })),
+            match blocks_of(alloc, &mut self.player, ground, seed, progress)? {
+                Some((blocks, is_bad)) => {
+                    return Ok(Some(Schedule {
+                        seed,
+                        blocks,
+                        is_bad,
+                    }));
+                }
                 None => {}
             }
         }
@@ -88,20 +98,54 @@ impl Chances {
     }
 }
 
-// The schedule that a seed leads to, made short, where it is bad.
-fn bad_blocks(
+// The schedule that a seed leads to, and whether it is bad: made short, where it is; as it is, where it comes to
+// an end and it is not known what is wanted.
+fn blocks_of<P: Progress>(
     alloc: Global,
     player: &mut Player,
     ground: &Ground<'_>,
     seed: u64,
-) -> AllocResult<Option<Vec<Block>>> {
+    progress: &mut P,
+) -> AllocResult<Option<(Vec<Block>, bool)>> {
     let blocks = wander(alloc, player, seed, ground.steps)?;
-    if finish(alloc, player, ground.wanted, MOST_STEPS)?.is_none() {
-        return Ok(None);
+    match finish(alloc, player, ground.wanted, MOST_STEPS)? {
+        Some(why) => {
+            let words = words_of(alloc, player, ground, seed, why)?;
+            progress.found(&words);
+            let blocks = shortened(alloc, player, ground.wanted, blocks, progress)?;
+            Ok(Some((blocks, true)))
+        }
+        None => {
+            let settles = ground.wanted.text.is_none() && has_ended(player.machine.control(0));
+            // What the debugger makes of the schedule takes memory, too.
+            player.rewind();
+            Ok(settles.then_some((blocks, false)))
+        }
     }
-    let mut search = Search::new(ground.wanted, blocks);
+}
+
+// What is bad about where a player stands, to which a seed led, in words.
+fn words_of(
+    alloc: Global,
+    player: &Player,
+    ground: &Ground<'_>,
+    seed: u64,
+    why: Badness,
+) -> AllocResult<Vec<u8>> {
+    let end = ended(alloc, &player.machine, why)?;
+    first_line(alloc, seed, &end, ground.wanted)
+}
+
+// A bad schedule, made short.
+fn shortened<P: Progress>(
+    alloc: Global,
+    player: &mut Player,
+    wanted: &Wanted,
+    blocks: Vec<Block>,
+    progress: &mut P,
+) -> AllocResult<Vec<Block>> {
+    let mut search = Search::new(wanted, blocks, progress);
     search.shorten(alloc, player)?;
-    // What the debugger makes of the schedule takes memory, too.
     player.rewind();
-    Ok(Some(search.blocks))
+    Ok(search.into_blocks())
 }

@@ -2,9 +2,10 @@
 
 use crate::block::{Block, is_shorter, steps_in};
 use crate::edits::{moved, shrunk, without};
-use crate::judge::Wanted;
+use crate::hunted::Progress;
 use crate::player::Player;
 use crate::trial::play;
+use lab_judge::Wanted;
 use om_seq::AllocResult;
 use std::alloc::Global;
 
@@ -14,32 +15,44 @@ const MOST_ROUNDS: u32 = 100;
 // How many steps the schedules that are played make at most, all together.
 const MOST_WORK: u64 = 20_000_000;
 
-// From so many steps on a schedule counts as one of so many. Behind it `run` makes 100,000 steps then, as the
+// From so many steps on a schedule counts as one of so many. After it `run` makes 100,000 steps then, as the
 // script does.
 const FAR: u64 = 24_750;
 
 /// A bad schedule that is made short.
 #[derive(Drop)]
-pub(crate) struct Search<'a> {
-    pub(crate) wanted: &'a Wanted,
-    pub(crate) blocks: Vec<Block>,
+pub(crate) struct Search<'a, P> {
+    wanted: &'a Wanted,
+    blocks: Vec<Block>,
     // How many further steps may be made.
     left: u64,
-    // How many steps `run` makes behind a schedule, at most.
+    // How many steps `run` makes after a schedule, at most.
     more: u32,
+    // Who is told of each schedule that is tried.
+    progress: &'a mut P,
 }
 
-impl<'a> Search<'a> {
+impl<'a, P: Progress> Search<'a, P> {
     /// A bad schedule that leads to an end. What does not, within a few times as many steps, is taken for one
     /// that goes on for ever.
-    pub(crate) fn new(wanted: &'a Wanted, blocks: Vec<Block>) -> Search<'a> {
+    pub(crate) fn new(
+        wanted: &'a Wanted,
+        blocks: Vec<Block>,
+        progress: &'a mut P,
+    ) -> Search<'a, P> {
         let steps = steps_in(&blocks).min(FAR);
         Search {
             wanted,
             blocks,
             left: MOST_WORK,
             more: steps as u32 * 4 + 1000,
+            progress,
         }
+    }
+
+    /// The schedule.
+    pub(crate) fn into_blocks(self) -> Vec<Block> {
+        self.blocks
     }
 
     /// Makes the schedule short: drops, joins and shrinks blocks while what comes of it is bad, until no such
@@ -74,6 +87,7 @@ impl<'a> Search<'a> {
         if is_better {
             self.blocks = played.blocks;
         }
+        self.progress.shortens(self.blocks.len());
         Ok(is_better)
     }
 
@@ -105,7 +119,7 @@ impl<'a> Search<'a> {
         self.cut_pieces(alloc, player, 1)
     }
 
-    // Moves a block behind another, or the other way round, where both are steps of one worker.
+    // Moves a block to after another, or the other one to after it, where both are steps of one worker.
     fn join_two(
         &mut self,
         alloc: Global,

@@ -1,8 +1,8 @@
 //! Schedules that are tried.
 
 use crate::block::{Block, push_step};
-use crate::judge::{Badness, Wanted};
 use crate::player::{Attempt, Player};
+use lab_judge::{Badness, Wanted};
 use om_seq::AllocResult;
 use om_state::{Choice, Label};
 use std::alloc::Global;
@@ -16,8 +16,8 @@ pub(crate) struct Played {
     pub(crate) bad: Option<Badness>,
 }
 
-/// Plays a schedule from the start, and lets `run` make so many steps behind it. A step that can't be made is
-/// left out, and all that stands behind a fault.
+/// Plays a schedule from the start, and lets `run` make so many steps after it. A step that can't be made is
+/// left out, and all that stands after a fault.
 pub(crate) fn play(
     alloc: Global,
     player: &mut Player,

@@ -70,7 +70,7 @@ Leads_over workers source same commands entries e p = subst (λ l. LeadsTo worke
 pub Script_of : (workers : ℕ) (given : Option (List ℕ)) (input source commands : List ℕ) (s : Script) → source
     ≡ source_of given input → lines commands ≡ commands_of given input
     → IsScriptFor workers (Some source) commands s → IsScriptFor workers given input s
-Script_of workers given input source commands (Steps text) e c p = record {
+Script_of workers given input source commands (Steps text turned_down) e c p = record {
   text = p.text;
   book = p.book;
   leaves = Session_of workers given input source commands p.text (Some p.book) e c p.leaves;
@@ -83,7 +83,7 @@ Script_of workers given input source commands (Refused line) e c p = Session_of 
 pub Cone_of : (workers : ℕ) (given : Option (List ℕ)) (input source commands : List ℕ) (serial : ℕ) (s : Script)
     → source ≡ source_of given input → lines commands ≡ commands_of given input
     → IsConeFor workers (Some source) commands serial s → IsConeFor workers given input serial s
-Cone_of workers given input source commands serial (Steps text) e c p = record {
+Cone_of workers given input source commands serial (Steps text turned_down) e c p = record {
   text = p.text;
   book = p.book;
   leaves = Session_of workers given input source commands p.text (Some p.book) e c p.leaves;

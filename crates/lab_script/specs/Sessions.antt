@@ -37,7 +37,7 @@ abbrev pub IsRefusal : ℕ → Option (List ℕ) → List ℕ → List ℕ → T
 IsRefusal workers given input line = Leaves workers given input line None
 
 abbrev pub IsScriptFor : ℕ → Option (List ℕ) → List ℕ → Script → Type 0
-IsScriptFor workers given input (Steps lines) = AreSteps workers given input lines.items
+IsScriptFor workers given input (Steps lines turned_down) = AreSteps workers given input lines.items
 IsScriptFor workers given input (Refused line) = IsRefusal workers given input line.items
 
 -- the script is that of a session whose source and commands are these
@@ -58,7 +58,7 @@ pub record AreOfCone (workers : ℕ) (given : Option (List ℕ)) (input : List �
     pub cone : IsConeOf (machine_of book) serial lines
 
 abbrev pub IsConeFor : ℕ → Option (List ℕ) → List ℕ → ℕ → Script → Type 0
-IsConeFor workers given input serial (Steps lines) = AreOfCone workers given input serial lines.items
+IsConeFor workers given input serial (Steps lines turned_down) = AreOfCone workers given input serial lines.items
 IsConeFor workers given input serial (Refused line) = IsRefusal workers given input line.items
 
 -- this is answered of a serial in a session with this source and these commands: its cone or a refusal

@@ -6,10 +6,10 @@ ghost use Rattle.om_shell_commands.specs.Lists.{joined, roll_text};
 ghost use Rattle.lab_script.specs.Cones.{cone_line, cone_text, IsConeOf};
 ghost use Rattle.lab_script.specs.Sessions.{IsConeIn, IsConeOver};
 
-use crate::run::{Ran, Script, ScriptFault, run_over};
+use crate::run::{Heard, Ran, Script, ScriptFault, Session, hear, session_in};
 use om_book::Book;
 use om_seq::AllocResult;
-use om_shell::{Options, SessionBytes, read_all, session_bytes};
+use om_shell::{Options, read_all};
 use om_shell_commands::{push_numbered, push_roll};
 use om_undo_history::{RollReply, Taken};
 use std::alloc::Global;
@@ -21,7 +21,8 @@ use std::thread::Threads;
 /// end, taking none.
 ///
 /// Each step is a line as `history` has it, in the order of the history. Where no step of that serial stands,
-/// the one line is what `roll` answers. Faults: H3 and H5, those of the debugger.
+/// the one line is what `roll` answers. Which commands were turned down is said besides. Faults: H3 and H5,
+/// those of the debugger.
 pub fn cone<H: Threads + Wait + Sync, R: Read>(
     rt: &H,
     alloc: Global,
@@ -34,7 +35,7 @@ pub fn cone<H: Threads + Wait + Sync, R: Read>(
     ensures { IfOk result (IsConeIn (R.remaining reader.old) options.entry serial) }
 {
     let input = read_all(alloc, reader)?;
-    let session = session_bytes(options.source, &input);
+    let session = session_in(options.source, &input);
     cone_of(rt, alloc, options.workers, session, serial)
 }
 
@@ -43,16 +44,20 @@ fn cone_of<H: Threads + Wait + Sync>(
     rt: &H,
     alloc: Global,
     workers: u8,
-    session: SessionBytes<'_>,
+    session: Session<'_>,
     serial: u64,
 ) -> Result<Script, ScriptFault>
     requires at_least_one_worker { 0 < workers }
     requires at_most_32_workers { workers ≤ 32 }
-    ensures { IfOk result (IsConeOver workers session.entry serial) }
+    ensures { IfOk result (IsConeOver workers session.entry.bytes serial) }
 {
-    let Ran { text, book } = run_over(rt, alloc, workers, session.source, session.commands)?;
+    let Heard { ran, turned_down } = hear(rt, alloc, workers, session)?;
+    let Ran { text, book } = ran;
     match book {
-        Some(book) => Ok(Script::Steps(cone_in(alloc, book, serial)?)),
+        Some(book) => {
+            let lines = cone_in(alloc, book, serial)?;
+            Ok(Script::Steps { lines, turned_down })
+        }
         None => Ok(Script::Refused(text)),
     }
 }

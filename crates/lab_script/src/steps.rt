@@ -6,12 +6,12 @@ ghost use Rattle.lab_script.specs.Steps.{bare, unnumbered};
 ghost use Rattle.lab_script.specs.Runs.{entries_in};
 ghost use Rattle.lab_script.specs.Sessions.{IsScriptIn, IsScriptOver, LeadBack};
 
-use crate::run::{Ran, Script, ScriptFault, run_over};
+use crate::run::{Heard, Ran, Script, ScriptFault, Session, hear, run_over, session_in};
 use lab_text::commands_for;
 use om_book::Book;
 use om_book_journal::same_items;
 use om_seq::AllocResult;
-use om_shell::{Options, SessionBytes, ShellFault, read_all, session_bytes};
+use om_shell::{Options, ShellFault, read_all};
 use om_undo::Entry;
 use std::alloc::Global;
 use std::io::Read;
@@ -22,9 +22,9 @@ use std::thread::Threads;
 /// at its end as lines of commands: `step W`, and `start W NAME`.
 ///
 /// The source stands at the front of the input unless it is handed in. All of the input is read, also what
-/// stands behind `quit`. The commands are run over the same source, so that they are known to lead to the
-/// same history but for serials. Faults: those of the debugger, H3 and H5, and `Differs` where that is not
-/// so.
+/// stands after `quit`. The commands are run over the same source, so that they are known to lead to the
+/// same history but for serials. Which commands of the session were turned down is said besides. Faults:
+/// those of the debugger, H3 and H5, and `Differs` where that is not so.
 pub fn script<H: Threads + Wait + Sync, R: Read>(
     rt: &H,
     alloc: Global,
@@ -36,7 +36,7 @@ pub fn script<H: Threads + Wait + Sync, R: Read>(
     ensures { IfOk result (IsScriptIn (R.remaining reader.old) options.entry) }
 {
     let input = read_all(alloc, reader)?;
-    let session = session_bytes(options.source, &input);
+    let session = session_in(options.source, &input);
     script_of(rt, alloc, options.workers, session)
 }
 
@@ -52,20 +52,22 @@ fn script_of<H: Threads + Wait + Sync>(
     rt: &H,
     alloc: Global,
     workers: u8,
-    session: SessionBytes<'_>,
+    session: Session<'_>,
 ) -> Result<Script, ScriptFault>
     requires at_least_one_worker { 0 < workers }
     requires at_most_32_workers { workers ≤ 32 }
-    ensures { IfOk result (IsScriptOver workers session.entry) }
+    ensures { IfOk result (IsScriptOver workers session.entry.bytes) }
 {
-    let Ran { text, book } = run_over(rt, alloc, workers, session.source, session.commands)?;
+    let Heard { ran, turned_down } = hear(rt, alloc, workers, session)?;
+    let Ran { text, book } = ran;
     match book {
         Some(book) => {
             let steps = steps_of(alloc, book)?;
-            if !leads_to(rt, alloc, workers, session.source, &steps)? {
+            if !leads_to(rt, alloc, workers, session.bytes.source, &steps)? {
                 return Err(ScriptFault::Differs);
             }
-            Ok(Script::Steps(steps.text))
+            let lines = steps.text;
+            Ok(Script::Steps { lines, turned_down })
         }
         None => Ok(Script::Refused(text)),
     }

@@ -1,2 +1,3 @@
 mod HeadLaws
+mod ReadLaws
 mod TailLaws

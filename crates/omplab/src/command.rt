@@ -9,16 +9,17 @@ const ABOUT: &str = "Finds, explains, keeps and draws the schedules of an OpenMP
 const STATUSES: &str = "With --version alone, standard output tells the version.
 
 Exit status:
-  0  it is done; `check` has accepted the source, and `hunt` has found no bad schedule
-  1  the source is refused, or `hunt` has found a bad schedule
-  2  wrong words, or help
-  3  a fault, told on standard error: H3 a read failed, H4 a write failed, H5 no memory";
+  0  it is done, and nothing bad was found; or help, or the version is told
+  1  something bad was found: `hunt` a schedule, `check` a source that is refused
+  2  wrong words
+  3  a fault, told on standard error: H3 a read failed, H4 a write failed, H5 no memory
+  5  the source is refused (but by `check`); standard error tells why and where";
 
 const SESSION: &str =
     "Without FILE, standard input holds the source up to a line `%%`, and then commands of ompback.
 With FILE, standard input holds commands alone.";
 
-// The number of workers, which each subcommand takes before or behind its name.
+// The number of workers, which each subcommand takes before or after its name.
 fn threads<'a>(alloc: Global) -> Arg<'a> {
     Arg::new(alloc, "threads")
         .long("threads")
@@ -143,7 +144,7 @@ fn cone<'a>(alloc: Global) -> Arg<'a> {
 
 fn notes<'a>(alloc: Global) -> AllocResult<Command<'a>> {
     Command::new(alloc, "notes")
-        .about("Passes the answers of `ompback FILE` on, with words behind them")
+        .about("Passes the answers of `ompback FILE` on, with words after them")
         .arg(file(alloc, true))
 }
 

@@ -1,7 +1,7 @@
 //! omplab: the program: its command line, what each subcommand does with files and streams, a meter, exit status.
 //!
 //! - `command` names the subcommands, and `words` reads the command line. `main` joins it with files and
-//!   streams.
+//!   streams, and `faults` says on standard error why there is no answer.
 //! - `subcommands` does each over any streams: `check`, `hunt`, `script`, `notes`, `draw`. A `Meter` tells
 //!   how far a hunt is.
 //! - A new subcommand is a crate of its own, with its part in `command`, `words` and `subcommands`, and a row
@@ -11,16 +11,22 @@
 ghost use Rattle.std.specs.Prelude.{◌<◌, ◌≤◌};
 
 mod command;
+mod faults;
+mod meter;
 mod subcommands;
 mod words;
 
+use crate::faults::{source_in, told};
 use crate::subcommands::{Host, Search, check, draw, explain, hunt, keep};
 use crate::words::{Asked, Words, ask_for_version, words_in};
+use clap::Error;
+use clap::error::ErrorKind;
+use lab_text::status::{DONE, FAULT, WORDS};
 use om_parser::STACK_SIZE;
 use om_seq::AllocResult;
-use om_shell::{Options, Outcome, ShellFault, read_named, send, status, words_of};
+use om_shell::{Options, ShellFault, send, words_of};
 use std::alloc::{AllocError, Global};
-use std::io::{self, IsTerminal, Write};
+use std::io::{self, IsTerminal, Stderr, Write};
 use std::process::ExitCode;
 use std::rt::{Files, Runtime};
 use std::sync::Wait;
@@ -50,115 +56,123 @@ fn done<R: Runtime + Threads + Wait + Sync>(
 {
     let mut writer = io::writer(host.rt);
     match asked {
-        Asked::Check { file } => check(host.alloc, file, host.options, &mut writer),
+        Asked::Check { .. } => check(host, &mut writer),
         Asked::Hunt {
-            file,
             seeds,
             steps,
             expected,
+            ..
         } => {
             let search = Search {
-                file,
                 seeds,
                 steps,
                 expected,
             };
             hunt(host, search, &mut writer)
         }
-        Asked::Notes { .. } => explain(
-            host.alloc,
-            host.options,
-            &mut host.rt.reader(),
-            &mut writer,
-        ),
+        Asked::Notes { .. } => explain(host, &mut host.rt.reader(), &mut writer),
         Asked::Script { cone, .. } => keep(host, cone, &mut host.rt.reader(), &mut writer),
         Asked::Draw { .. } => draw(host, &mut host.rt.reader(), &mut writer),
     }
 }
 
-// Does what the words ask for, and tells how it ended.
-fn outcome_of<R: Runtime + Threads + Wait + Sync>(
-    rt: &R,
+// Where the program runs, besides its words.
+#[derive(Clone, Copy)]
+struct Place {
     alloc: Global,
-    words: Words<'_>,
+    errors: Stderr,
+    // Whether standard error is a terminal.
     is_watched: bool,
-) -> Outcome
+}
+
+// Does what the words ask for, and answers the exit status.
+fn status_of<R: Runtime + Threads + Wait + Sync>(rt: &R, place: Place, words: Words<'_>) -> u8
     requires least { 0 < words.workers }
     requires most { words.workers ≤ 32 }
 {
-    let source = match read_named(rt, alloc, file_of(words.asked)) {
-        Ok(source) => source,
-        Err(fault) => return Outcome::Fault(fault),
-    };
-    let options = Options {
-        workers: words.workers,
-        source: source.as_ref().map(|bytes| bytes.as_slice()),
+    let file = file_of(words.asked);
+    let Some(source) = source_in(rt, place.alloc, file) else {
+        return FAULT;
     };
     let host = Host {
         rt,
-        alloc,
-        options,
-        is_watched,
+        alloc: place.alloc,
+        errors: place.errors,
+        file,
+        options: Options {
+            workers: words.workers,
+            source: source.as_ref().map(|bytes| bytes.as_slice()),
+        },
+        is_watched: place.is_watched,
     };
     match done(&host, words.asked) {
-        Ok(status) => Outcome::Ran(status),
-        Err(fault) => Outcome::Fault(fault),
+        Ok(status) => status,
+        Err(fault) => told(rt, fault),
     }
 }
 
-// Writes the version, and tells how that ended.
-fn version<W: Write>(writer: &mut W) -> Outcome {
-    match send(writer, VERSION) {
-        Ok(()) => Outcome::Ran(0),
-        Err(fault) => Outcome::Fault(fault),
+// Writes the version, and answers the exit status.
+fn version<R: Runtime>(rt: &R) -> u8 {
+    match send(&mut io::writer(rt), VERSION) {
+        Ok(()) => DONE,
+        Err(fault) => told(rt, fault),
+    }
+}
+
+// Says what is wrong with words, or the help that they ask for, and answers the exit status. Help goes to standard
+// output.
+fn answer_to_words<R: Runtime>(rt: &R, error: &Error) -> u8 {
+    if error.kind() != ErrorKind::DisplayHelp {
+        let _ = rt.eprint(error);
+        return WORDS;
+    }
+    match rt.print(error) {
+        Ok(()) => DONE,
+        Err(_) => told(rt, ShellFault::Write),
     }
 }
 
 // Does what the words of the command line ask for, the first of which names the program.
-fn outcome_for<R: Runtime + AllocGlobal + Threads + Wait + Sync>(
+fn status_for<R: Runtime + AllocGlobal + Threads + Wait + Sync>(
     rt: &R,
-    alloc: Global,
+    place: Place,
     words: &[&str],
-    is_watched: bool,
-) -> AllocResult<Outcome> {
+) -> AllocResult<u8> {
     if ask_for_version(words) {
-        return Ok(version(&mut io::writer(rt)));
+        return Ok(version(rt));
     }
-    match words_in(alloc, words) {
-        Ok(words) => Ok(outcome_of(rt, alloc, words, is_watched)),
-        Err(error) if error.kind() == clap::error::ErrorKind::OutOfMemory => Err(AllocError),
-        Err(error) => {
-            let _ = rt.eprint(&error);
-            Ok(Outcome::Words)
-        }
+    match words_in(place.alloc, words) {
+        Ok(words) => Ok(status_of(rt, place, words)),
+        Err(error) if error.kind() == ErrorKind::OutOfMemory => Err(AllocError),
+        Err(error) => Ok(answer_to_words(rt, &error)),
     }
 }
 
 // Reads the command line and does what it asks for.
 fn program<R: Runtime + AllocGlobal + Threads + Wait + Sync>(
     rt: &R,
-    alloc: Global,
-    is_watched: bool,
-) -> AllocResult<Outcome> {
-    let Some(words) = words_of(rt, alloc)? else {
-        return Ok(Outcome::Words);
+    place: Place,
+) -> AllocResult<u8> {
+    let Some(words) = words_of(rt, place.alloc)? else {
+        return Ok(WORDS);
     };
-    let words: Vec<&str> = words.iter().map(|word| word.as_str()).collect(alloc)?;
-    outcome_for(rt, alloc, words.as_slice(), is_watched)
+    let words: Vec<&str> = words.iter().map(|word| word.as_str()).collect(place.alloc)?;
+    status_for(rt, place, words.as_slice())
 }
 
 fn main(rt: HostRuntime) -> ExitCode {
-    let alloc = rt.alloc();
-    let is_watched = rt.stderr().is_terminal();
+    let errors = rt.stderr();
+    let place = Place {
+        alloc: rt.alloc(),
+        errors,
+        is_watched: errors.is_terminal(),
+    };
     let thread = Builder::new()
         .stack_size(STACK_SIZE)
-        .spawn(&rt, move || program(&rt, alloc, is_watched));
-    let outcome = match thread.map(|thread| thread.join(&rt)) {
-        Ok(Ok(outcome)) => outcome,
-        _ => Outcome::Fault(ShellFault::Memory),
+        .spawn(&rt, move || program(&rt, place));
+    let status = match thread.map(|thread| thread.join(&rt)) {
+        Ok(Ok(status)) => status,
+        _ => told(&rt, ShellFault::Memory),
     };
-    if let Outcome::Fault(fault) = outcome {
-        let _ = rt.eprintln(fault);
-    }
-    ExitCode::from(status(outcome))
+    ExitCode::from(status)
 }

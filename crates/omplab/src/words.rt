@@ -38,7 +38,7 @@ pub enum Asked<'a> {
         /// The serial of the step whose cone is asked for.
         cone: Option<u64>,
     },
-    /// To pass answers on with words behind them.
+    /// To pass answers on with words after them.
     Notes {
         file: &'a str,
     },

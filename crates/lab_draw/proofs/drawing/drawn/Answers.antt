@@ -8,5 +8,6 @@ returns c = IfOk-weaker c.with_elements.result _ _
     (λ page is. drawing_of (machine_of c.args.book.now) c.machine-machine.result.now c.program-2.result.now
     c.in_ok-steps.steps.items c.deref.result.now c.in_ok-picture.picture.boxes.items
     c.in_ok-picture.picture.arrows.items c.in_ok-beside.beside.extent.scale c.in_ok-front.front.items _ page.items
-    c.machine-machine.ensures.left c.program-2.ensures c.deref.ensures.value c.in_ok-steps.ensures
+    c.machine-machine.ensures.left c.program-2.ensures c.deref.ensures.value c.in_ok-steps.ensures.touched
+    c.in_ok-steps.ensures.said
     c.in_ok-picture.ensures.boxes c.in_ok-picture.ensures.exactly c.in_ok-beside.ensures is) c.with_elements.ensures

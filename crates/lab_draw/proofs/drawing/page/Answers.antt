@@ -7,5 +7,5 @@ pub returns-in-Ok : goal.returns-in-Ok
 returns-in-Ok g c = IfOk-weaker c.shown.result _ _
     (λ page is. page_of (g.R.Read.remaining c.args.reader.now) (g.R.Read.remaining c.read_all.new.reader)
     c.args.options.workers (option_copied c.args.options.source) c.in_ok-input.input.items c.deref.result.now
-    c.new-text.result.items c.session.new.text.items c.in-Ok.ended.status c.in-Ok.ended.book page c.in_ok-input.ensures
-    c.deref.ensures.value c.new-text.ensures.items c.in-Ok.ensures is) c.shown.ensures
+    c.in-Ok.heard.text.items c.in-Ok.ensures.0 c.in-Ok.heard.book page c.in_ok-input.ensures
+    c.deref.ensures.value c.in-Ok.ensures.1 is) c.shown.ensures

@@ -8,8 +8,10 @@ use Rattle.om_undo_history.specs.Records.{entries_of}
 use Rattle.om_undo_history.specs.Pasts.{Past}
 use Rattle.om_undo.specs.Machines.{rules_for}
 use Rattle.lab_graph.specs.declared.traced.Traced.{Traced}
+use Rattle.lab_replay.specs.Said.{AreSaidFrom}
 use Rattle.lab_replay.specs.Traces.{transition_of, IsRemade}
-use Rattle.lab_replay.proofs.Replays.{can_be_made, remade_more, split_at, taken_more, touched_is}
+use Rattle.lab_replay.proofs.Remade.{remade_more}
+use Rattle.lab_replay.proofs.Replays.{can_be_made, split_at, taken_more, touched_is}
 use Rattle.lab_replay.proofs.replay.retraced.Goals as goal
 
 pub loop-entry-init : goal.loop-entry-init
@@ -21,6 +23,8 @@ loop-entry-init c = record {
   labels = ap (λ (p : Past). map label_of (entries_of p.records)) c.new-history.ensures.past;
   made = ap (λ (p : Past). p.made) c.new-history.ensures.past;
   noted = ap (λ (ts : List Traced). map transition_of ts) c.new-steps.ensures.items;
+  said = subst (λ (ts : List Traced). AreSaidFrom (rules_for c.args.machine.now) (rules_for c.args.machine.now).start [] ts)
+      (sym c.new-steps.ensures.items) tt;
 }
 
 pub traced-requires-clause-made : goal.traced-requires-clause-made
@@ -54,7 +58,7 @@ loop-entry-preserved c =
     let less : i < length es = omega arith in
     let more : IsRemade r c.traced.new.history (take i es ++ e ∷ []) (c.loop-entry.steps.items ++ t ∷ []) =
     remade_more r c.loop-entry.history c.traced.new.history (take i es) c.loop-entry.steps.items e t
-    c.loop-entry.invariant c.in-Ok.ensures.noted c.in-Ok.ensures.longer in
+    c.loop-entry.invariant c.in-Ok.ensures.noted c.in-Ok.ensures.said c.in-Ok.ensures.longer in
     let pushed : c.push.new.self.items ≡ c.loop-entry.steps.items ++ t ∷ [] = c.in_ok-push-in-Ok.ensures.items in
     subst (λ ts. IsRemade r c.traced.new.history (take (i + 1) es) ts) (sym pushed)
     (subst (λ l. IsRemade r c.traced.new.history l (c.loop-entry.steps.items ++ t ∷ []))

@@ -7,8 +7,8 @@ use Rattle.lab_script.proofs.cones.cone.Goals as goal
 pub returns : goal.returns
 returns g c =
     let given = option_copied c.args.options.source in
-    let source = rw c.deref.ensures.value at c.session_bytes-session.ensures.source in
-    let commands = rw c.deref.ensures.value at c.session_bytes-session.ensures.commands in
+    let source = rw c.deref.ensures.value at c.session_in-session.ensures.source in
+    let commands = rw c.deref.ensures.value at c.session_in-session.ensures.commands in
     IfOk-weaker c.cone_of.result _ _
     (λ s over. of_reader _ _ _ (λ input. IsConeFor c.args.options.workers given input c.args.serial s)
     c.in_ok-input.ensures (Cone_of _ given _ _ _ c.args.serial s source commands over))

@@ -1,0 +1,10 @@
+use Rattle.std.specs.Prelude.{List, ℕ, codes}
+use Rattle.om_shell_commands.specs.Lists.{joined}
+use Rattle.lab_schedules.specs.Reports.{wait_text}
+use Rattle.lab_schedules.proofs.Texts.{appended_two}
+use Rattle.lab_schedules.proofs.report.push_stuck.Goals as goal
+
+pub returns : goal.returns
+returns c =
+    appended_two c.args.text.now.items _ _ (codes "stuck: no worker has a move") (joined wait_text c.args.waits.now)
+    c.in_ok-extend_from_slice.ensures.items c.in_ok-push_waits.ensures
