@@ -1,0 +1,4 @@
+pub mod Libraries
+pub mod Codes
+pub mod Directives
+pub mod Marks
