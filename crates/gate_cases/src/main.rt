@@ -1,4 +1,4 @@
-//! Cases and checks: a program that runs cases: C sources with verdicts, sessions with answers, books that they leave.
+//! Cases and checks: a program that runs cases: sources with verdicts, sessions with answers, free runs; books left.
 //!
 //! Cases are the sections of `stdin`; what is said of them is compared with `stdout`. A section `== STAGE
 //! TITLE` has sources, each with the verdict that is wanted of that stage of the front end: `lexer`, `line`,

@@ -1,5 +1,5 @@
 -- What is wanted of schedules that were tried.
-use Rattle.std.proofs.Common.{◌≡◌, ℕ, suc, List, Option, None, Some, is_some, true}
+use Rattle.std.proofs.Common.{◌≡◌, ◌<◌, ◌≤◌, ℕ, suc, List, Option, None, Some, is_some, true}
 use Rattle.std.proofs.Common.{refl, sym, ◌∙◌, subst, inl, inr, arith}
 use Rattle.std.proofs.lemmas.Option.{IfSome_then}
 use Rattle.lab_judge.specs.declared.judge.Standard.{Standard}
@@ -10,9 +10,10 @@ use Rattle.lab_schedules.specs.declared.hunted.Aims.{Aims}
 use Rattle.lab_schedules.specs.declared.hunted.Found.{Found}
 use Rattle.lab_schedules.specs.declared.seeds.Ground.{Ground}
 use Rattle.lab_hunt.specs.declared.hunting.Sought.{Sought}
-use Rattle.lab_hunt.specs.Finds.{IsCompared, IsDue, told_in}
+use Rattle.lab_hunt.specs.Finds.{FindsBad, IsCompared, IsDue, IsFound, RunsAlone, told_in}
 use Rattle.lab_hunt.specs.Tries.{IsComparedAfter, IsComparedOn, IsDueOn, IsFoundAfter, IsFoundOn}
 use Rattle.lab_hunt.specs.Tries.{IsOfSeedBefore, IsSought}
+use Rattle.om_book.specs.Books.{BookView, machine_of}
 use Rattle.om_undo.specs.Machines.{MachineView}
 
 -- a bad schedule, by what is wanted on the ground
@@ -86,3 +87,23 @@ pub compared_in : (aims : Aims) (g : Ground) (source : List ℕ) (alone : Machin
     → IsCompared aims source alone sought.compared
 compared_in aims g source alone sought w s e f p =
     compared_by aims g source alone sought.compared w s e f p.compared
+
+not_zero : (n : ℕ) → 0 < n → n ≡ 0 → ⊥
+not_zero n less z = omega (arith, less, z)
+
+-- a bad schedule of a seed, in a hunt
+pub found_in : (aims : Aims) (g : Ground) (source : List ℕ) (text : List ℕ) (alone : BookView) (found : Found)
+    → RunsAlone aims.workers source text (Some alone) → g.workers ≡ aims.workers → g.seeds ≡ aims.seeds
+    → g.wanted.now.standard ≡ standard_by (told_in aims)
+    → text_in g.wanted.now.text ≡ wanted_by (told_in aims) (machine_of alone) → IsFoundOn g source found
+    → FindsBad aims source found
+found_in aims g source text alone found r w s e f p = record {
+  text = text;
+  alone = alone;
+  runs = r;
+  is = subst (λ n. IsFound n source found) w p.is;
+  within = subst (λ n. found.seed ≤ n) s p.within;
+  of_run = λ z. absurd (not_zero found.seed p.from_one z);
+  due = due_on aims g source (machine_of alone) found.seed found.wanted.standard (text_in found.wanted.text) w e f
+      p.due;
+}

@@ -1,2 +1,3 @@
 pub mod Bad
 pub mod Texts
+pub mod Words

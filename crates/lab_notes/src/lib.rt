@@ -1,4 +1,4 @@
-//! omplab notes: a filter that adds words after a session's answers, for codes, lines, functions, variables, objects.
+//! omplab notes: a filter that adds words after a session's answers; finds functions and lines in a source's tokens.
 //!
 //! `annotate` is the filter. Without what stands after the mark, every line is the one that came. Bytes that
 //! a line announces are passed on as they are.

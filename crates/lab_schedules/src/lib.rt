@@ -1,4 +1,4 @@
-//! omplab hunt: schedules: made by chance from a seed, played on a machine, judged, made short, written and reported.
+//! omplab hunt: schedules: made by chance from a seed, played, judged, made short, written; the words of the report.
 //!
 //! A schedule is a list of blocks, each of some steps of one worker (`Block`).
 //!

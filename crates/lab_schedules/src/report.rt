@@ -2,12 +2,11 @@
 
 ghost use Rattle.std.specs.Prelude.{◌≡◌, ◌++◌, IfOk, OnOk, length};
 ghost use Rattle.om_shell_commands.specs.Lists.{joined};
-ghost use Rattle.lab_schedules.specs.Reports.{awaited_text, bad_text, before_wanted, block_words, blocks_word, byte_text, compared_text, compared_with, fault_words, first_text, found_text, length_text, limits_text, lock_words, name_words, not_compared, nothing_text, outputs_text, quoted, report_text, seed_text, seed_words, several_seeds, some_unconfirmed, start_words, steps_words, stuck_text, threads_text, told_text, unconfirmed_text, wait_text, words_text};
+ghost use Rattle.lab_schedules.specs.Reports.{block_words, blocks_word, compared_text, compared_with, first_text, found_text, length_text, limits_text, not_compared, nothing_text, report_text, seed_text, seed_words, several_seeds, some_unconfirmed, start_words, steps_words, threads_text, unconfirmed_text, words_text};
 
 use crate::block::Block;
 use crate::hunted::{Found, Hunted};
-use lab_judge::{Awaited, Badness, End, Standard, Wait, Wanted};
-use om_code::frame::Fault;
+use lab_judge::{End, Standard, Wanted, push_badness};
 use om_foot::Name;
 use om_seq::AllocResult;
 use om_shell_commands::push_numbered;
@@ -182,152 +181,6 @@ fn push_seed(text: &mut Vec<u8>, seed: u64) -> AllocResult<()>
     }
     push_numbered(text, b"seed ", seed)?;
     text.extend_from_slice(b": ")
-}
-
-fn push_badness(text: &mut Vec<u8>, end: &End, wanted: &Wanted) -> AllocResult<()>
-    ensures { OnOk result (text.new.items ≡ text.old.items ++ bad_text end.now wanted.now) }
-{
-    match end.why {
-        Badness::Output => push_outputs(text, end.output.as_slice(), wanted),
-        Badness::Fault {
-            fault,
-            worker,
-            line,
-        } => push_fault(text, fault, worker, line),
-        Badness::Stuck => push_stuck(text, end.waits.as_slice()),
-    }
-}
-
-fn push_fault(text: &mut Vec<u8>, fault: Fault, worker: u8, line: u32) -> AllocResult<()>
-    ensures { OnOk result (text.new.items ≡ text.old.items ++ fault_words fault worker line) }
-{
-    push_numbered(text, b"fault F", fault.number())?;
-    push_numbered(text, b" of worker ", worker)?;
-    push_numbered(text, b" in line ", line)?;
-    Ok(())
-}
-
-// Appends that a program is stuck, and who waits for what.
-fn push_stuck(text: &mut Vec<u8>, waits: &[Wait]) -> AllocResult<()>
-    ensures { OnOk result (text.new.items ≡ text.old.items ++ stuck_text waits.now) }
-{
-    text.extend_from_slice(b"stuck: no worker has a move")?;
-    push_waits(text, waits)?;
-    Ok(())
-}
-
-fn push_waits(text: &mut Vec<u8>, waits: &[Wait]) -> AllocResult<()>
-    ensures { OnOk result (text.new.items ≡ text.old.items ++ joined wait_text waits.now) }
-{
-    for wait in waits {
-        push_wait(text, wait)?;
-    }
-    Ok(())
-}
-
-fn push_wait(text: &mut Vec<u8>, wait: &Wait) -> AllocResult<()>
-    ensures { OnOk result (text.new.items ≡ text.old.items ++ wait_text wait.now) }
-{
-    push_numbered(text, b"; worker ", wait.worker)?;
-    push_numbered(text, b" waits in line ", wait.line)?;
-    push_awaited(text, &wait.what)?;
-    Ok(())
-}
-
-fn push_awaited(text: &mut Vec<u8>, what: &Awaited) -> AllocResult<()>
-    ensures { OnOk result (text.new.items ≡ text.old.items ++ awaited_text what.now) }
-{
-    match what {
-        Awaited::Barrier => text.extend_from_slice(b" at a barrier"),
-        Awaited::Lock { name, holder } => push_lock(text, name.as_slice(), *holder),
-        Awaited::Children => text.extend_from_slice(b" for tasks that it made"),
-        Awaited::Worker(worker) => push_numbered(text, b" for worker ", *worker),
-        Awaited::Group => text.extend_from_slice(b" for tasks of its taskgroup"),
-    }
-}
-
-fn push_lock(text: &mut Vec<u8>, name: &[u8], holder: u8) -> AllocResult<()>
-    ensures { OnOk result (text.new.items ≡ text.old.items ++ lock_words name.now holder) }
-{
-    text.extend_from_slice(b" for critical")?;
-    push_name(text, name)?;
-    push_numbered(text, b", held by worker ", holder)?;
-    Ok(())
-}
-
-// Appends the name of a critical region; nothing for the unnamed one.
-fn push_name(text: &mut Vec<u8>, name: &[u8]) -> AllocResult<()>
-    ensures { OnOk result (text.new.items ≡ text.old.items ++ name_words name.now) }
-{
-    if name.is_empty() {
-        return Ok(());
-    }
-    text.extend_from_slice(b" (")?;
-    text.extend_from_slice(name)?;
-    text.extend_from_slice(b")")
-}
-
-fn push_outputs(text: &mut Vec<u8>, output: &[u8], wanted: &Wanted) -> AllocResult<()>
-    ensures { OnOk result
-        (text.new.items ≡ text.old.items ++ outputs_text output.now wanted.now) }
-{
-    text.extend_from_slice(b"printed ")?;
-    push_quoted(text, output)?;
-    let Some(due) = &wanted.text else {
-        return Ok(());
-    };
-    push_wanted(text, due.as_slice(), wanted.standard)
-}
-
-fn push_wanted(text: &mut Vec<u8>, due: &[u8], standard: Standard) -> AllocResult<()>
-    ensures { OnOk result (text.new.items ≡ text.old.items ++ told_text standard due.now) }
-{
-    push_before_wanted(text, standard)?;
-    push_quoted(text, due)
-}
-
-// Appends what stands before what was wanted.
-fn push_before_wanted(text: &mut Vec<u8>, standard: Standard) -> AllocResult<()>
-    ensures { OnOk result (text.new.items ≡ text.old.items ++ before_wanted standard) }
-{
-    match standard {
-        Standard::Told => text.extend_from_slice(b", wanted "),
-        Standard::Run => text.extend_from_slice(b", where `run` prints "),
-        Standard::Seed(seed) => {
-            push_numbered(text, b", where seed ", seed)?;
-            text.extend_from_slice(b" prints ")
-        }
-    }
-}
-
-// Appends bytes in quotes, on one line.
-fn push_quoted(text: &mut Vec<u8>, bytes: &[u8]) -> AllocResult<()>
-    ensures { OnOk result (text.new.items ≡ text.old.items ++ quoted bytes.now) }
-{
-    text.extend_from_slice(b"\"")?;
-    push_bytes(text, bytes)?;
-    text.extend_from_slice(b"\"")
-}
-
-fn push_bytes(text: &mut Vec<u8>, bytes: &[u8]) -> AllocResult<()>
-    ensures { OnOk result (text.new.items ≡ text.old.items ++ joined byte_text bytes.now) }
-{
-    for byte in bytes {
-        push_byte(text, *byte)?;
-    }
-    Ok(())
-}
-
-fn push_byte(text: &mut Vec<u8>, byte: u8) -> AllocResult<()>
-    ensures { OnOk result (text.new.items ≡ text.old.items ++ byte_text byte) }
-{
-    match byte {
-        b'\n' => text.extend_from_slice(b"\\n"),
-        b'\r' => text.extend_from_slice(b"\\r"),
-        b'"' => text.extend_from_slice(b"\\\""),
-        b'\\' => text.extend_from_slice(b"\\\\"),
-        _ => text.extend_from_slice(&[byte]),
-    }
 }
 
 fn push_length(text: &mut Vec<u8>, blocks: &[Block]) -> AllocResult<()>

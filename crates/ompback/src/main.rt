@@ -1,4 +1,4 @@
-//! Commands and answers: ompback, the debugger as a program: its command line, files, threads, exit status; tests.
+//! Commands and answers: ompback, the debugger as a program: its command line; runs om_shell on a thread; tests.
 //!
 //! `words` reads the command line: 1 to 32 workers, and perhaps a file. `main` joins it with files and the
 //! shell, on a thread with the stack that the parser asks for (`STACK_SIZE` of om_parser).

@@ -1,7 +1,7 @@
 use Rattle.std.proofs.Common.{◌≡◌, ◌++◌, drop}
 use Rattle.om_shell_commands.specs.Lists.{joined}
-use Rattle.lab_schedules.specs.Reports.{wait_text}
-use Rattle.lab_schedules.proofs.report.push_waits.Given as goal
+use Rattle.lab_judge.specs.Words.{wait_text}
+use Rattle.lab_judge.proofs.words.push_waits.Given as goal
 
 -- the texts so far and those of what is left are all
 abbrev pub invariant-loop-wait : goal.invariant-loop-wait

@@ -1,8 +1,8 @@
 use Rattle.std.specs.Prelude.{List, ℕ, codes}
 use Rattle.om_shell_commands.specs.Lists.{joined}
-use Rattle.lab_schedules.specs.Reports.{wait_text}
-use Rattle.lab_schedules.proofs.Texts.{appended_two}
-use Rattle.lab_schedules.proofs.report.push_stuck.Goals as goal
+use Rattle.lab_judge.specs.Words.{wait_text}
+use Rattle.lab_judge.proofs.Texts.{appended_two}
+use Rattle.lab_judge.proofs.words.push_stuck.Goals as goal
 
 pub returns : goal.returns
 returns c =

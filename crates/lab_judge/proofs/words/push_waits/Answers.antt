@@ -1,8 +1,8 @@
 use Rattle.std.proofs.Common.{ℕ, ◌<◌, length, arith, ◌++◌}
 use Rattle.om_shell_commands.specs.Lists.{joined}
-use Rattle.lab_schedules.specs.Reports.{wait_text}
-use Rattle.lab_schedules.proofs.Texts.{joined_next}
-use Rattle.lab_schedules.proofs.report.push_waits.Goals as goal
+use Rattle.lab_judge.specs.Words.{wait_text}
+use Rattle.lab_judge.proofs.Texts.{joined_next}
+use Rattle.lab_judge.proofs.words.push_waits.Goals as goal
 
 pub loop-wait-preserved : goal.loop-wait-preserved
 loop-wait-preserved c =

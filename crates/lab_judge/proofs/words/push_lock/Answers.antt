@@ -1,7 +1,7 @@
 use Rattle.std.specs.Prelude.{List, ℕ, ◌++◌, codes}
-use Rattle.lab_schedules.specs.Reports.{name_words, held_by}
-use Rattle.lab_schedules.proofs.Texts.{appended_two}
-use Rattle.lab_schedules.proofs.report.push_lock.Goals as goal
+use Rattle.lab_judge.specs.Words.{name_words, held_by}
+use Rattle.lab_judge.proofs.Texts.{appended_two}
+use Rattle.lab_judge.proofs.words.push_lock.Goals as goal
 
 pub returns : goal.returns
 returns c =

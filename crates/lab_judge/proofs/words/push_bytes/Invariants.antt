@@ -1,7 +1,7 @@
 use Rattle.std.proofs.Common.{◌≡◌, ◌++◌, drop}
 use Rattle.om_shell_commands.specs.Lists.{joined}
-use Rattle.lab_schedules.specs.Reports.{byte_text}
-use Rattle.lab_schedules.proofs.report.push_bytes.Given as goal
+use Rattle.lab_judge.specs.Words.{byte_text}
+use Rattle.lab_judge.proofs.words.push_bytes.Given as goal
 
 -- the texts so far and those of what is left are all
 abbrev pub invariant-loop-byte : goal.invariant-loop-byte

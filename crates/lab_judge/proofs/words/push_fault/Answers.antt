@@ -1,8 +1,8 @@
 use Rattle.std.specs.Prelude.{List, ℕ, ◌++◌, codes, decimal}
 use Rattle.om_code.specs.Faults.{fault_number}
-use Rattle.lab_schedules.specs.Reports.{of_worker, in_line}
-use Rattle.lab_schedules.proofs.Texts.{appended_two}
-use Rattle.lab_schedules.proofs.report.push_fault.Goals as goal
+use Rattle.lab_judge.specs.Words.{of_worker, in_line}
+use Rattle.lab_judge.proofs.Texts.{appended_two}
+use Rattle.lab_judge.proofs.words.push_fault.Goals as goal
 
 pub returns : goal.returns
 returns c =

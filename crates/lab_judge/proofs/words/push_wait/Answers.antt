@@ -1,7 +1,7 @@
 use Rattle.std.specs.Prelude.{List, ℕ, ◌++◌, codes, decimal}
-use Rattle.lab_schedules.specs.Reports.{awaited_text, waits_in}
-use Rattle.lab_schedules.proofs.Texts.{appended_two}
-use Rattle.lab_schedules.proofs.report.push_wait.Goals as goal
+use Rattle.lab_judge.specs.Words.{awaited_text, waits_in}
+use Rattle.lab_judge.proofs.Texts.{appended_two}
+use Rattle.lab_judge.proofs.words.push_wait.Goals as goal
 
 pub returns : goal.returns
 returns c =
