@@ -93,12 +93,36 @@ These are not all schedules, and this is no race detector.
 """
 HUNT = ["hunt", "--seeds", "20", "--steps", "1000"]
 
+# A source that has a form, what it becomes, and what is told of its changes.
+WIDER = "static int x = 3;\nint main(void)\n{\n\tlong n = 10L;\n\treturn EXIT_SUCCESS;\n}\n"
+PORTED = "       int x = 3;\nint main(void)\n{\n\tint  n = 10 ;\n\treturn 0           ;\n}\n"
+CHANGES = """a.c:1: changed: storage: static is left out
+a.c:4: changed: narrow: long is int
+a.c:4: warning: fault: narrow: a result that does not fit is the fault F1
+a.c:4: changed: suffix: 10L is 10
+a.c:4: warning: fault: suffix: a result that does not fit is the fault F1
+a.c:5: changed: constant: EXIT_SUCCESS is 0
+4 changes, 2 warnings; the text is accepted
+"""
+PLAIN = STATIC.replace("\tstatic int x", "\tint const x")
+POINTS = "int main(void)\n{\n\tint *p;\n}\n"
+NO_POINTER = """a.c:3:6: error: port: a pointer has no form here
+ 3 | \tint *p;
+   | \t    ^
+help: pass an index of a global array
+a.c:3:6: error: S3: """
+
 # What is tried, its words, its source, its input, the status, and the texts that are wanted on standard output and on standard
 # error.
 ROWS = [
     ("a source is accepted", ["check"], RACE, "", 0, "a.c: accepted\n", ""),
     ("a team is smaller than asked for", ["check"], THREE, "", 0, "a.c: accepted\na.c:3:22: note: with --threads 2 this team has at most 2; give omplab and ompback --threads 3\n", ""),
     ("a source is refused", ["check"], STATIC, "", 1, LEFT_OUT, ""),
+    ("an accepted source is ported as it is", ["port", "--strict"], RACE, "", 0, RACE, "0 changes, 0 warnings; the text is accepted\n"),
+    ("a source is ported", ["port"], WIDER, "", 0, PORTED, CHANGES),
+    ("a text with a warning is held back", ["port", "--strict"], WIDER, "", 1, "", CHANGES),
+    ("changes are listed alone", ["port", "--list"], WIDER, "", 0, CHANGES, ""),
+    ("a text without a warning is not held back", ["port", "--strict"], PLAIN, "", 0, PLAIN.replace("const", "     "), "a.c:3: changed: storage: const is left out\n1 change, 0 warnings; the text is accepted\n"),
     ("the steps of a session are kept", ["script"], RACE, LOST, 0, SCRIPT, REFUSED_UNDO),
     ("a cone is listed", ["script", "--cone", "5"], RACE, LOST, 0, CONE, REFUSED_UNDO),
     ("words stand after answers", ["notes"], RACE, ANSWERS, 0, NOTED, ""),
@@ -127,6 +151,7 @@ BEGUN = [
     ("help goes to standard output", ["--help"], "", "", 0, "Finds, explains, keeps and draws the schedules of an OpenMP program in C.", ""),
     ("so does that of a subcommand", ["hunt", "--help"], "", "", 0, "Tries schedules by chance,", ""),
     ("a page tells what was turned down, by its line of the input", ["draw"], "", IN_FRONT, 0, "<!DOCTYPE html>\n", TURNED_DOWN),
+    ("what has no form is written as it is", ["port"], POINTS, "", 1, POINTS, NO_POINTER),
     ("words are wrong", ["hunts"], "", "", 2, "", "error: unrecognized subcommand 'hunts'"),
     ("a subcommand is missing", [], "", "", 2, "", "error: "),
 ]

@@ -10,10 +10,11 @@ const STATUSES: &str = "With --version alone, standard output tells the version.
 
 Exit status:
   0  it is done, and nothing bad was found; or help, or the version is told
-  1  something bad was found: `hunt` a schedule, `check` a source that is refused
+  1  something bad was found: `hunt` a schedule, `check` a source that is refused; `port` has a text that is
+     refused, or that --strict holds back
   2  wrong words
   3  a fault, told on standard error: H3 a read failed, H4 a write failed, H5 no memory
-  5  the source is refused (but by `check`); standard error tells why and where";
+  5  the source is refused (but by `check` and `port`); standard error tells why and where";
 
 const SESSION: &str =
     "Without FILE, standard input holds the source up to a line `%%`, and then commands of ompback.
@@ -155,6 +156,32 @@ fn draw<'a>(alloc: Global) -> AllocResult<Command<'a>> {
         .arg(file(alloc, false))
 }
 
+fn port<'a>(alloc: Global) -> AllocResult<Command<'a>> {
+    let command = Command::new(alloc, "port")
+        .about("Writes wider C as the C that ompback runs, with each token on its line")
+        .after_help(
+            "Standard error lists each change with its line, each warning, and each token that has no form.
+The text is written also where it is not accepted, so that the rest can be done by hand.",
+        );
+    let command = command.arg(strict(alloc));
+    let command = with(command, list(alloc));
+    with(command, file(alloc, true))
+}
+
+fn strict<'a>(alloc: Global) -> Arg<'a> {
+    Arg::new(alloc, "strict")
+        .long("strict")
+        .help("Writes no text where it is not accepted or has a warning")
+        .action(ArgAction::SetTrue)
+}
+
+fn list<'a>(alloc: Global) -> Arg<'a> {
+    Arg::new(alloc, "list")
+        .long("list")
+        .help("Writes the list on standard output, and no text")
+        .action(ArgAction::SetTrue)
+}
+
 /// The command line of omplab. Its only error is out of memory.
 pub(crate) fn omplab<'a>(alloc: Global) -> AllocResult<Command<'a>> {
     let command = Command::new(alloc, "omplab")
@@ -163,6 +190,7 @@ pub(crate) fn omplab<'a>(alloc: Global) -> AllocResult<Command<'a>> {
         .subcommand_required(true);
     let command = command.arg(threads(alloc));
     let command = over(command, check(alloc));
+    let command = over(command, port(alloc));
     let command = over(command, hunt(alloc));
     let command = over(command, script(alloc));
     let command = over(command, notes(alloc));

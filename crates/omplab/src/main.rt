@@ -2,8 +2,8 @@
 //!
 //! - `command` names the subcommands, and `words` reads the command line. `main` joins it with files and
 //!   streams, and `faults` says on standard error why there is no answer.
-//! - `subcommands` does each over any streams: `check`, `hunt`, `script`, `notes`, `draw`. A `Meter` tells
-//!   how far a hunt is.
+//! - `subcommands` does each over any streams: `check`, `hunt`, `script`, `notes`, `draw`; and `port` does
+//!   `port`. A `Meter` tells how far a hunt is.
 //! - A new subcommand is a crate of its own, with its part in `command`, `words` and `subcommands`, and a row
 //!   of `tests/subcommands.py`.
 #![tactic(auto)]
@@ -13,10 +13,12 @@ ghost use Rattle.std.specs.Prelude.{◌<◌, ◌≤◌};
 mod command;
 mod faults;
 mod meter;
+mod port;
 mod subcommands;
 mod words;
 
 use crate::faults::{source_in, told};
+use crate::port::port;
 use crate::subcommands::{Host, Search, check, draw, explain, hunt, keep};
 use crate::words::{Asked, Words, ask_for_version, words_in};
 use clap::Error;
@@ -39,6 +41,7 @@ const VERSION: &[u8] = b"omplab 0.9.0\n";
 fn file_of<'a>(asked: Asked<'a>) -> Option<&'a str> {
     match asked {
         Asked::Check { file } => Some(file),
+        Asked::Port { file, .. } => Some(file),
         Asked::Hunt { file, .. } => Some(file),
         Asked::Notes { file } => Some(file),
         Asked::Script { file, .. } => file,
@@ -57,6 +60,7 @@ fn done<R: Runtime + Threads + Wait + Sync>(
     let mut writer = io::writer(host.rt);
     match asked {
         Asked::Check { .. } => check(host, &mut writer),
+        Asked::Port { strict, list, .. } => port(host, strict, list, &mut writer),
         Asked::Hunt {
             seeds,
             steps,

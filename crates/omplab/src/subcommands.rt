@@ -33,8 +33,8 @@ pub(crate) struct Host<'a, 'b, H> {
     pub(crate) is_watched: bool,
 }
 
-// The name of the source in a report, where it stands in standard input.
-const INPUT: &str = "<stdin>";
+/// The name of the source in a report, where it stands in standard input.
+pub(crate) const INPUT: &str = "<stdin>";
 
 impl<H> Host<'_, '_, H> {
     // Says whether a source is accepted, and else why not.
@@ -43,8 +43,8 @@ impl<H> Host<'_, '_, H> {
         report(self.alloc, file, source, self.options.workers)
     }
 
-    // Writes a text on standard error.
-    fn tell(&self, text: &[u8]) {
+    /// Writes a text on standard error.
+    pub(crate) fn tell(&self, text: &[u8]) {
         let mut errors = self.errors;
         let _ = send(&mut errors, text);
     }

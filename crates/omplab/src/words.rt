@@ -22,6 +22,14 @@ pub enum Asked<'a> {
     Check {
         file: &'a str,
     },
+    /// To write what a source becomes in the C that ompback runs.
+    Port {
+        file: &'a str,
+        /// Whether the text is held back where it is not accepted or has a warning.
+        strict: bool,
+        /// Whether the list is written alone.
+        list: bool,
+    },
     /// To try schedules by chance, and shorten the first bad one.
     Hunt {
         file: &'a str,
@@ -106,6 +114,11 @@ fn asked_by<'a>(name: &str, given: &ArgMatches<'a>) -> Option<Asked<'a>> {
     let file = given.get_str("file");
     Some(match name {
         "check" => Asked::Check { file: file? },
+        "port" => Asked::Port {
+            file: file?,
+            strict: given.get_flag("strict"),
+            list: given.get_flag("list"),
+        },
         "hunt" => hunt_by(file?, given)?,
         "script" => Asked::Script {
             file,
