@@ -1,5 +1,7 @@
 //! What each subcommand writes, by the call on which it depends.
 
+ghost use Rattle.std.specs.Prelude.{◌≡◌};
+
 use crate::hunts::hunted;
 use crate::sections::{Given, cut};
 use lab_check::{Report, report};
@@ -75,7 +77,9 @@ pub(crate) fn refused(alloc: Global, given: Given<'_>, text: Vec<u8>) -> AllocRe
 }
 
 // The source of a session, and how many workers there are.
-fn options(given: Given<'_>) -> Options<'_> {
+fn options(given: Given<'_>) -> Options<'_>
+    ensures two { result.workers ≡ 2 }
+{
     Options {
         workers: WORKERS,
         source: Some(given.source),
