@@ -1,0 +1,3 @@
+pub mod Sees
+pub mod NameLaws
+pub mod SourceLaws
