@@ -9,16 +9,14 @@ ghost use Rattle.om_scope_rules.specs.Scopes.{after_optional, after_parameter, r
 ghost use Rattle.om_scope_rules.specs.UnitRules.{definition_breaches, flow_of, head_breaches, is_other_main, is_redeclared, optional_breaches, parameter_breaches, prototype_breaches};
 ghost use Rattle.om_scope_rules.specs.StatementRules.{redeclared_breaches};
 ghost use Rattle.om_scope_tree.specs.declared.resolved.Shape.TheVariants.{Scalar};
-ghost use Rattle.om_scope.specs.Parameters.{AppendsFurtherParameters, AppendsParameter, AppendsParameters};
-ghost use Rattle.om_scope.specs.Parameters.{ChecksFurtherOptionals, ChecksFurtherParameters, ChecksOptionals};
-ghost use Rattle.om_scope.specs.Parameters.{ChecksParameters, DeclaresFurtherOptionals, DeclaresFurtherParameters};
+ghost use Rattle.om_scope.specs.Parameters.{AppendsParameter, AppendsParameters, ChecksOptionals, ChecksParameters};
 ghost use Rattle.om_scope.specs.Parameters.{DeclaresOptionals, DeclaresParameters, ResolvesFunction, ResolvesInside};
 ghost use Rattle.om_scope.specs.Resolving.{DeclaresHead, DefinesHead, parameters_in};
 
 use crate::statement::resolve_statements;
-use om_lexer::{FaultCode, SourceResult, Span};
+use om_lexer::{FaultCode, SourceResult};
 use om_parser_tree::{Function, FunctionHead, Name, Parameter, Parameters, ResultType};
-use om_scope_parts::{check_new, copy_of, local_of, refuse_if};
+use om_scope_parts::{Separated, check_new, copy_of, local_of, refuse_if};
 use om_scope_rules::{FUNCTION_LIMIT, Flow, Meaning, PARAMETER_LIMIT, Signature, head_first};
 use om_scope_symbols::Symbols;
 use om_scope_tree::{LocalVariable, ResolvedFunction, ResolvedStatement, Shape};
@@ -141,25 +139,6 @@ fn declare_parameter(
     Ok(())
 }
 
-// Declares the parameters of a definition behind the first.
-fn declare_further_parameters(
-    alloc: Global,
-    symbols: &mut Symbols,
-    parameters: &mut Vec<LocalVariable>,
-    rest: &[(Span, Parameter<Name>)],
-) -> SourceResult<()>
-    ensures checked { ChecksFurtherParameters result symbols.old rest.now }
-    ensures in_scope { DeclaresFurtherParameters result symbols.old symbols.new rest.now }
-    ensures resolved { AppendsFurtherParameters result parameters.old parameters.new rest.now }
-{
-    let mut before = 1;
-    for further in rest {
-        declare_parameter(alloc, symbols, parameters, before, &further.1)?;
-        before += 1;
-    }
-    Ok(())
-}
-
 // Declares the parameters of a definition.
 fn declare_parameters(
     alloc: Global,
@@ -174,8 +153,12 @@ fn declare_parameters(
     let Parameters::Listed { first, rest } = parameters else {
         return Ok(());
     };
-    declare_parameter(alloc, symbols, found, 0, first)?;
-    declare_further_parameters(alloc, symbols, found, rest.as_slice())
+    let mut before = 0;
+    for parameter in Separated::new(first, rest.as_slice()) {
+        declare_parameter(alloc, symbols, found, before, parameter)?;
+        before += 1;
+    }
+    Ok(())
 }
 
 // Declares a parameter of a prototype, if it has a name, behind so many others: S8, S11.
@@ -200,23 +183,6 @@ fn declare_optional(
     declare_parameter_name(alloc, symbols, name)
 }
 
-// Declares the parameters of a prototype behind the first.
-fn declare_further_optionals(
-    alloc: Global,
-    symbols: &mut Symbols,
-    rest: &[(Span, Parameter<Option<Name>>)],
-) -> SourceResult<()>
-    ensures checked { ChecksFurtherOptionals result symbols.old rest.now }
-    ensures in_scope { DeclaresFurtherOptionals result symbols.old symbols.new rest.now }
-{
-    let mut before = 1;
-    for further in rest {
-        declare_optional(alloc, symbols, before, &further.1)?;
-        before += 1;
-    }
-    Ok(())
-}
-
 // Declares the parameters of a prototype.
 fn declare_optionals(
     alloc: Global,
@@ -229,8 +195,12 @@ fn declare_optionals(
     let Parameters::Listed { first, rest } = parameters else {
         return Ok(());
     };
-    declare_optional(alloc, symbols, 0, first)?;
-    declare_further_optionals(alloc, symbols, rest.as_slice())
+    let mut before = 0;
+    for parameter in Separated::new(first, rest.as_slice()) {
+        declare_optional(alloc, symbols, before, parameter)?;
+        before += 1;
+    }
+    Ok(())
 }
 
 /// A function that is declared and not defined.

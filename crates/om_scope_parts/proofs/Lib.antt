@@ -1,4 +1,5 @@
 mod Auto
 pub mod Items
+pub mod Commas
 pub mod Targets
 pub mod Arguments

@@ -5,12 +5,13 @@ ghost use Rattle.om_scope_rules.specs.Checks.{Checks, ChecksExactly};
 ghost use Rattle.om_scope_rules.specs.Scopes.{cells_of, shape_of};
 ghost use Rattle.om_scope_rules.specs.StatementResolution.{length_of, local_of};
 ghost use Rattle.om_scope_rules.specs.StatementRules.{array_size_breaches, is_empty_array, local_breaches, locals_breaches, redeclared_breaches};
-ghost use Rattle.om_scope_parts.specs.Declares.{AddsFurtherLocals, AddsLocalsOf, DeclaresLocal, DeclaresLocals, IsAdded};
-ghost use Rattle.om_scope_parts.specs.Declares.{ResolvesInitial, ResolvesLocal, ResolvesLocals, bare_tree, further_locals};
+ghost use Rattle.om_scope_parts.specs.Declares.{AddsLocalsOf, DeclaresLocal, DeclaresLocals, IsAdded};
+ghost use Rattle.om_scope_parts.specs.Declares.{ResolvesInitial, ResolvesLocal, ResolvesLocals, bare_tree};
 ghost use Rattle.om_scope_parts.specs.Declares.{local_name_breaches, local_tree, locals_in};
 
 use crate::expression::{add, boxed_expression, unboxed};
-use om_lexer::{FaultCode, SourceResult, Span};
+use crate::separated::Separated;
+use om_lexer::{FaultCode, SourceResult};
 use om_parser_tree::{ArrayLength, Declaration, Declarator, Expression, Initializer, Name};
 use om_scope_symbols::{Symbols, refuse_if};
 use om_scope_tree::{LocalVariable, ResolvedDeclarator, ResolvedExpression, Shape};
@@ -153,23 +154,6 @@ fn add_local(
     add(declared, resolve_declarator(alloc, symbols, declarator))
 }
 
-// Declares the local variables behind the first of a declaration.
-fn resolve_further_locals(
-    alloc: Global,
-    symbols: &mut Symbols,
-    declared: &mut Vec<ResolvedDeclarator>,
-    rest: &[(Span, Declarator<Expression>)],
-) -> SourceResult<()>
-    ensures checked { Checks result (locals_breaches symbols.old (further_locals rest.now)) }
-    ensures in_scope { DeclaresLocals result symbols.old symbols.new (further_locals rest.now) }
-    ensures resolved { AddsFurtherLocals result symbols.old declared.old declared.new rest.now }
-{
-    for further in rest {
-        add_local(alloc, symbols, declared, &further.1)?;
-    }
-    Ok(())
-}
-
 // Declares the variables of a declaration in a function.
 fn add_locals(
     alloc: Global,
@@ -181,8 +165,10 @@ fn add_locals(
     ensures in_scope { DeclaresLocals result symbols.old symbols.new (locals_in declaration.now) }
     ensures resolved { AddsLocalsOf result symbols.old declared.old declared.new declaration.now }
 {
-    add_local(alloc, symbols, declared, &declaration.first)?;
-    resolve_further_locals(alloc, symbols, declared, declaration.rest.as_slice())
+    for declarator in Separated::new(&declaration.first, declaration.rest.as_slice()) {
+        add_local(alloc, symbols, declared, declarator)?;
+    }
+    Ok(())
 }
 
 /// The variables of a declaration in a function, which are declared one after the other: each is in

@@ -8,13 +8,13 @@ ghost use Rattle.om_scope_rules.specs.Outcomes.{Finds};
 ghost use Rattle.om_scope_rules.specs.Resolution.{variable_named, variable_of};
 ghost use Rattle.om_scope_tree.specs.ResolvedView as view;
 ghost use Rattle.om_scope_rules.specs.StatementResolution.{clause_of, kind_of};
-ghost use Rattle.om_scope_parts.specs.Lists.{AddsAll, AddsClause, AddsFlushed, AddsFurther, ChecksClause, ChecksFlushed};
-ghost use Rattle.om_scope_parts.specs.Lists.{ChecksListed, ChecksNames, ListsAll, ListsName, ListsNames, ResolvesClauses};
-ghost use Rattle.om_scope_parts.specs.Lists.{ResolvesDirective, ResolvesFlush, ResolvesFlushed, ResolvesListed, further_names};
-ghost use Rattle.om_scope_parts.specs.Lists.{listed_in, view_clause, view_items};
+ghost use Rattle.om_scope_parts.specs.Lists.{AddsAll, AddsClause, ChecksClause, ChecksListed, ChecksNames, ListsAll};
+ghost use Rattle.om_scope_parts.specs.Lists.{ListsName, ResolvesClauses, ResolvesDirective, ResolvesFlush, ResolvesFlushed};
+ghost use Rattle.om_scope_parts.specs.Lists.{ResolvesListed, listed_in, view_clause, view_items};
 
 use crate::declaration::local_of;
 use crate::expression::{add, boxed_expression};
+use crate::separated::Separated;
 use om_lexer::{FaultCode, SourceResult};
 use om_parser_tree::{Expression, Name};
 use om_pragma::{Clause, ClauseItem, DataSharing, Directive, DirectiveName, FurtherName, NameList};
@@ -149,24 +149,6 @@ fn list_name(
     Ok(clause_of(listing.alloc, listing.kind, variable, name)?)
 }
 
-// Takes the names behind the first of a list.
-fn list_further_names(
-    listing: &Listing<'_>,
-    listed: &mut Listed,
-    clauses: &mut Vec<ResolvedClause>,
-    rest: &[FurtherName],
-) -> SourceResult<()>
-    ensures checked { ChecksNames result listing.now listed.old (further_names rest.now) }
-    ensures listed { ListsNames result listing.now listed.old listed.new (further_names rest.now) }
-    ensures resolved { AddsFurther result listing.now clauses.old clauses.new rest.now }
-{
-    for further in rest {
-        let found = list_name(listing, listed, &further.1);
-        add(clauses, found)?;
-    }
-    Ok(())
-}
-
 // Takes the names of a list.
 fn list_names(
     listing: &Listing<'_>,
@@ -179,8 +161,11 @@ fn list_names(
     ensures listed { ListsAll result listing.now listed.old listed.new first.now rest.now }
     ensures resolved { AddsAll result listing.now clauses.old clauses.new first.now rest.now }
 {
-    add(clauses, list_name(listing, listed, first))?;
-    list_further_names(listing, listed, clauses, rest)
+    for name in Separated::new(first, rest) {
+        let found = list_name(listing, listed, name);
+        add(clauses, found)?;
+    }
+    Ok(())
 }
 
 // How a clause of data sharing copies what it lists; nothing where it shares it.
@@ -287,22 +272,6 @@ fn resolve_flushed(alloc: Global, symbols: &Symbols, name: &Name) -> SourceResul
     resolve_listed(symbols, DataSharing::Shared, &Listed::new(alloc), name)
 }
 
-// The variables behind the first of a list.
-fn resolve_further_flushed(
-    alloc: Global,
-    symbols: &Symbols,
-    variables: &mut Vec<Variable>,
-    rest: &[FurtherName],
-) -> SourceResult<()>
-    ensures checked { ChecksFlushed result symbols.now (further_names rest.now) }
-    ensures resolved { AddsFlushed result symbols.now variables.old variables.new rest.now }
-{
-    for further in rest {
-        variables.push(resolve_flushed(alloc, symbols, &further.1)?)?;
-    }
-    Ok(())
-}
-
 // The variables of a list.
 fn resolve_names(
     alloc: Global,
@@ -313,8 +282,9 @@ fn resolve_names(
     ensures { ResolvesFlushed result symbols.now (names_in first.now rest.now) }
 {
     let mut variables = Vec::new(alloc);
-    variables.push(resolve_flushed(alloc, symbols, first)?)?;
-    resolve_further_flushed(alloc, symbols, &mut variables, rest)?;
+    for name in Separated::new(first, rest) {
+        variables.push(resolve_flushed(alloc, symbols, name)?)?;
+    }
     Ok(Seq::of(variables))
 }
 

@@ -8,11 +8,12 @@ ghost use Rattle.om_scope_rules.specs.Scopes.{cells_of, is_declared};
 ghost use Rattle.om_scope_rules.specs.UnitResolution.{initial_of};
 ghost use Rattle.om_scope_rules.specs.UnitRules.{global_breaches, globals_breaches, initial_breaches};
 ghost use Rattle.om_scope_parts.specs.Declares.{AppendsGlobal, AppendsGlobals, DeclaresGlobal, DeclaresGlobals, HasCellsFor};
-ghost use Rattle.om_scope_parts.specs.Declares.{further_globals, global_tree, globals_in, initial_tree, name_breaches_of};
+ghost use Rattle.om_scope_parts.specs.Declares.{global_tree, globals_in, initial_tree, name_breaches_of};
 
 use crate::declaration::{cells_of, check_new, check_size, copy_of, length_of, shape_of};
 use crate::expression::constant_of;
-use om_lexer::{FaultCode, SourceResult, Span};
+use crate::separated::Separated;
+use om_lexer::{FaultCode, SourceResult};
 use om_parser_tree::{Declaration, Declarator, Initializer, SignedNumber};
 use om_scope_rules::GLOBAL_CELL_LIMIT;
 use om_scope_symbols::{Symbols, refuse_if};
@@ -108,23 +109,6 @@ fn declare_global(
     add_global(alloc, globals, declarator)
 }
 
-// Declares the globals behind the first of a declaration.
-fn declare_further_globals(
-    alloc: Global,
-    symbols: &mut Symbols,
-    globals: &mut Vec<GlobalVariable>,
-    rest: &[(Span, Declarator<SignedNumber>)],
-) -> SourceResult<()>
-    ensures checked { Checks result (globals_breaches symbols.old (further_globals rest.now)) }
-    ensures in_scope { DeclaresGlobals result symbols.old symbols.new (further_globals rest.now) }
-    ensures declared { AppendsGlobals result globals.old globals.new (further_globals rest.now) }
-{
-    for further in rest {
-        declare_global(alloc, symbols, globals, &further.1)?;
-    }
-    Ok(())
-}
-
 /// Declares the globals of a declaration, in their order, and adds them behind those before it (C17
 /// 6.9.2).
 ///
@@ -140,6 +124,8 @@ pub fn declare_globals(
     ensures in_scope { DeclaresGlobals result symbols.old symbols.new (globals_in declaration.now) }
     ensures declared { AppendsGlobals result globals.old globals.new (globals_in declaration.now) }
 {
-    declare_global(alloc, symbols, globals, &declaration.first)?;
-    declare_further_globals(alloc, symbols, globals, declaration.rest.as_slice())
+    for declarator in Separated::new(&declaration.first, declaration.rest.as_slice()) {
+        declare_global(alloc, symbols, globals, declarator)?;
+    }
+    Ok(())
 }

@@ -5,6 +5,7 @@
 //!
 //! - `expression` and `call` resolve expressions, and `target` what is assigned to. `declaration` and
 //!   `globals` declare variables. `directive` takes clauses, and `bounds` resolves the bounds of a loop.
+//!   `separated` goes through a list whose items commas part.
 //! - Most parts are a function with the clause `Resolves`: its first breach is refused, or its resolution is
 //!   found. The clause `in_scope` says what is in scope after the part. What adds to a list promises `Adds`
 //!   or `Appends`.
@@ -20,6 +21,7 @@ mod declaration;
 mod directive;
 mod expression;
 mod globals;
+mod separated;
 mod target;
 
 pub use bounds::{enter_loop, resolve_loop};
@@ -28,4 +30,5 @@ pub use directive::{resolve_directive, resolve_flush};
 pub use expression::{add, boxed, boxed_expression, unboxed};
 pub use globals::declare_globals;
 pub use om_scope_symbols::refuse_if;
+pub use separated::Separated;
 pub use target::misplaced;

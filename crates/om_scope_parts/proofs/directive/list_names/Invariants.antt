@@ -1,15 +1,15 @@
-use Rattle.std.proofs.Common.{◌≡◌, map, drop}
-use Rattle.om_scope_rules.specs.DirectiveRules.{after_name, listed_breaches, sharing_of}
-use Rattle.om_scope_rules.specs.Perhaps.{each}
+use Rattle.std.proofs.Common.{◌≡◌, map}
 use Rattle.om_scope_tree.specs.ResolvedView as view
-use Rattle.om_scope_rules.specs.StatementResolution.{resolved_listed}
+use Rattle.om_scope_rules.specs.DirectiveRules.{after_name, listed_breaches, names_in, sharing_of}
 use Rattle.om_scope_rules.specs.InRow.{Unbroken, made_and}
-use Rattle.om_scope_parts.proofs.directive.list_further_names.Given as goal
+use Rattle.om_scope_rules.specs.Perhaps.{each}
+use Rattle.om_scope_rules.specs.StatementResolution.{resolved_listed}
+use Rattle.om_scope_parts.proofs.directive.list_names.Given as goal
 
-abbrev pub invariant-loop-further : goal.invariant-loop-further
-invariant-loop-further l =
-    let all = map (λ further. further.1) l.rest in
-    let left = map (λ further. further.1) (drop l.further-index l.rest) in
+abbrev pub invariant-loop-name : goal.invariant-loop-name
+invariant-loop-name l =
+    let all = names_in l.first l.rest in
+    let left = l.name-iterator in
     let before = map view.clause l.fn.clauses.items in
     let now = map view.clause l.clauses.items in
     record {

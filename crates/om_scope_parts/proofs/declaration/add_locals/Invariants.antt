@@ -1,16 +1,16 @@
-use Rattle.std.proofs.Common.{◌≡◌, map, drop}
-use Rattle.om_parser_tree.specs.View.{view_expression, view_further}
+use Rattle.std.proofs.Common.{◌≡◌, map}
 use Rattle.om_scope_tree.specs.ResolvedView as view
-use Rattle.om_scope_rules.specs.Scopes.{after_local, behind_commas}
+use Rattle.om_scope_rules.specs.Scopes.{after_local}
 use Rattle.om_scope_rules.specs.StatementResolution.{resolved_declarators}
 use Rattle.om_scope_rules.specs.StatementRules.{local_breaches}
 use Rattle.om_scope_rules.specs.InRow.{Unbroken, made_and}
-use Rattle.om_scope_parts.proofs.declaration.resolve_further_locals.Given as goal
+use Rattle.om_scope_parts.specs.Declares.{local_tree, locals_in}
+use Rattle.om_scope_parts.proofs.declaration.add_locals.Given as goal
 
-abbrev pub invariant-loop-further : goal.invariant-loop-further
-invariant-loop-further l =
-    let all = behind_commas (map (view_further view_expression) l.rest) in
-    let left = behind_commas (map (view_further view_expression) (drop l.further-index l.rest)) in
+abbrev pub invariant-loop-declarator : goal.invariant-loop-declarator
+invariant-loop-declarator l =
+    let all = locals_in l.declaration in
+    let left = map local_tree l.declarator-iterator in
     let before = map view.declarator l.fn.declared.items in
     let now = map view.declarator l.declared.items in
     record {
