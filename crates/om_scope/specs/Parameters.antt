@@ -2,7 +2,6 @@
 use Rattle.std.specs.Prelude.{◌≡◌, [], ◌∷◌, List, OnOk, Option, Result, Vec, map}
 use Rattle.std.specs.declared.alloc.Global.{Global}
 use Rattle.om_lexer.specs.declared.fault.SourceFault.{SourceFault}
-use Rattle.om_lexer.specs.declared.token.Span.{Span}
 use Rattle.om_pragma.specs.declared.clause.Name as names
 use Rattle.om_parser_tree.specs.declared.tree.Parameter.{Parameter}
 use Rattle.om_parser_tree.specs.declared.tree.Parameters.{Parameters}
@@ -12,41 +11,26 @@ use Rattle.om_scope_tree.specs.declared.resolved.ResolvedFunction.{ResolvedFunct
 use Rattle.om_scope_tree.specs.declared.resolved.ResolvedStatement.{ResolvedStatement}
 use Rattle.om_scope_tree.specs.ResolvedView as view
 use Rattle.om_scope_rules.specs.Checks.{Checks}
-use Rattle.om_scope_rules.specs.Faults.{breaches_along}
 use Rattle.om_scope_rules.specs.Resolves.{Appends, Resolves}
 use Rattle.om_scope_rules.specs.Scopes.{Scopes, after_optionals, after_parameters}
 use Rattle.om_scope_rules.specs.UnitResolution.{parameter_variable, resolved_function, resolved_inside}
-use Rattle.om_scope_rules.specs.UnitRules.{body_breaches, function_breaches, next_optional, next_parameter, optional_breaches}
-use Rattle.om_scope_rules.specs.UnitRules.{optionals_breaches, parameter_breaches, parameters_breaches}
-use Rattle.om_scope.specs.Resolving.{further_parameters, parameters_in, view_items}
+use Rattle.om_scope_rules.specs.UnitRules.{body_breaches, function_breaches, optionals_breaches, parameters_breaches}
+use Rattle.om_scope.specs.Resolving.{parameters_in, view_items}
 
--- ---- the parameters of a definition, `Further` where they stand behind the first
+-- ---- the parameters of a definition
 
 -- the first breach of one of them is refused
 abbrev pub ChecksParameters : {T : Type 0} → Result T SourceFault → Scopes → Parameters names.Name → Type 0
 ChecksParameters result scopes ps = Checks result (parameters_breaches scopes (parameters_in ps))
 
-abbrev pub ChecksFurtherParameters : {T : Type 0} → Result T SourceFault → Scopes → List (Span × Parameter names.Name)
-    → Type 0
-ChecksFurtherParameters result scopes rest = Checks result
-    (breaches_along parameter_breaches next_parameter (1, scopes) (further_parameters rest))
-
 -- they are in scope, unless one is refused
 abbrev pub DeclaresParameters : {T : Type 0} → Result T SourceFault → Scopes → Scopes → Parameters names.Name → Type 0
 DeclaresParameters result old new ps = OnOk result (new ≡ after_parameters old (parameters_in ps))
-
-abbrev pub DeclaresFurtherParameters : {T : Type 0} → Result T SourceFault → Scopes → Scopes
-    → List (Span × Parameter names.Name) → Type 0
-DeclaresFurtherParameters result old new rest = OnOk result (new ≡ after_parameters old (further_parameters rest))
 
 -- their variables stand behind those that were there, unless one is refused
 abbrev pub AppendsParameters : {T : Type 0} → Result T SourceFault → Vec LocalVariable Global → Vec LocalVariable Global
     → Parameters names.Name → Type 0
 AppendsParameters result old new ps = Appends result old new (map parameter_variable (parameters_in ps))
-
-abbrev pub AppendsFurtherParameters : {T : Type 0} → Result T SourceFault → Vec LocalVariable Global
-    → Vec LocalVariable Global → List (Span × Parameter names.Name) → Type 0
-AppendsFurtherParameters result old new rest = Appends result old new (map parameter_variable (further_parameters rest))
 
 -- the variable of one parameter stands behind those that were there, unless the parameter is refused
 abbrev pub AppendsParameter : {T : Type 0} → Result T SourceFault → Vec LocalVariable Global → Vec LocalVariable Global
@@ -59,19 +43,10 @@ AppendsParameter result old new p = Appends result old new (map parameter_variab
 abbrev pub ChecksOptionals : {T : Type 0} → Result T SourceFault → Scopes → Parameters (Option names.Name) → Type 0
 ChecksOptionals result scopes ps = Checks result (optionals_breaches scopes (parameters_in ps))
 
-abbrev pub ChecksFurtherOptionals : {T : Type 0} → Result T SourceFault → Scopes
-    → List (Span × Parameter (Option names.Name)) → Type 0
-ChecksFurtherOptionals result scopes rest = Checks result
-    (breaches_along optional_breaches next_optional (1, scopes) (further_parameters rest))
-
 -- those that have names are in scope, unless one is refused
 abbrev pub DeclaresOptionals : {T : Type 0} → Result T SourceFault → Scopes → Scopes → Parameters (Option names.Name)
     → Type 0
 DeclaresOptionals result old new ps = OnOk result (new ≡ after_optionals old (parameters_in ps))
-
-abbrev pub DeclaresFurtherOptionals : {T : Type 0} → Result T SourceFault → Scopes → Scopes
-    → List (Span × Parameter (Option names.Name)) → Type 0
-DeclaresFurtherOptionals result old new rest = OnOk result (new ≡ after_optionals old (further_parameters rest))
 
 -- ---- functions
 

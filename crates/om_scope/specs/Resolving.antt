@@ -3,7 +3,6 @@ use Rattle.std.specs.Global.{Box}
 use Rattle.std.specs.Prelude.{◌≡◌, ◌++◌, List, OnOk, Option, Result, Vec, map, option_map}
 use Rattle.std.specs.declared.alloc.Global.{Global}
 use Rattle.om_lexer.specs.declared.fault.SourceFault.{SourceFault}
-use Rattle.om_lexer.specs.declared.token.Span.{Span}
 use Rattle.om_pragma.specs.declared.clause.Name as names
 use Rattle.om_pragma.specs.declared.tree.Directive.{Directive}
 use Rattle.om_parser_tree.specs.declared.tree.Expression.{Expression}
@@ -57,10 +56,6 @@ part_trees sections = trees.parts (map view_part sections)
 -- the parameters that a function lists
 abbrev pub parameters_in : {N : Type 0} → Parameters N → List (Parameter N)
 parameters_in ps = parameters_of (view_parameters ps)
-
--- those behind the first
-abbrev pub further_parameters : {N : Type 0} → List (Span × Parameter N) → List (Parameter N)
-further_parameters rest = map (λ further. further.1) rest
 
 -- ---- resolved trees
 

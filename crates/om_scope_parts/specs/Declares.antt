@@ -3,14 +3,13 @@ use Rattle.std.specs.Global.{Box}
 use Rattle.std.specs.Prelude.{◌≡◌, ◌+◌, ◌≤◌, ◌++◌, List, [], ◌∷◌, OnOk, Option, Result, Some, Vec, map, option_map}
 use Rattle.std.specs.declared.alloc.Global.{Global}
 use Rattle.om_lexer.specs.declared.fault.SourceFault.{SourceFault}
-use Rattle.om_lexer.specs.declared.token.Span.{Span}
 use Rattle.om_parser_tree.specs.declared.tree.Declaration as declarations
 use Rattle.om_parser_tree.specs.declared.tree.Declarator.{Declarator}
 use Rattle.om_parser_tree.specs.declared.tree.Expression.{Expression}
 use Rattle.om_parser_tree.specs.declared.tree.Initializer.{Initializer}
 use Rattle.om_parser_tree.specs.declared.tree.SignedNumber.{SignedNumber}
 use Rattle.om_parser_tree.specs.Tree.{DeclaratorTree, ExpressionTree, InitializerTree}
-use Rattle.om_parser_tree.specs.View.{view_declarator, view_expression, view_further, view_global, view_initializer}
+use Rattle.om_parser_tree.specs.View.{view_declarator, view_expression, view_global, view_initializer}
 use Rattle.om_parser_tree.specs.View.{view_local, view_number}
 use Rattle.om_scope_tree.specs.declared.resolved.GlobalVariable.{GlobalVariable}
 use Rattle.om_scope_tree.specs.declared.resolved.ResolvedDeclarator.{ResolvedDeclarator}
@@ -18,7 +17,7 @@ use Rattle.om_scope_tree.specs.declared.resolved.ResolvedExpression.{ResolvedExp
 use Rattle.om_scope_tree.specs.ResolvedView as view
 use Rattle.om_scope_rules.specs.declared.limits.TheConstants.{GLOBAL_CELL_LIMIT}
 use Rattle.om_scope_rules.specs.Resolves.{Adds, Appends, Resolves}
-use Rattle.om_scope_rules.specs.Scopes.{Scopes, after_global, after_globals, after_local, after_locals, behind_commas}
+use Rattle.om_scope_rules.specs.Scopes.{Scopes, after_global, after_globals, after_local, after_locals}
 use Rattle.om_scope_rules.specs.Scopes.{cells_of, declarators_of}
 use Rattle.om_scope_rules.specs.StatementResolution.{resolved_declarator, resolved_declarators, resolved_initial}
 use Rattle.om_scope_rules.specs.StatementRules.{array_size_breaches, initializer_breaches, local_breaches, locals_breaches}
@@ -37,11 +36,7 @@ bare_tree = view_declarator (λ value. value)
 abbrev pub local_tree : Declarator Expression → DeclaratorTree ExpressionTree
 local_tree = view_declarator view_expression
 
--- the declarators behind the first of a declaration
-abbrev pub further_locals : List (Span × Declarator Expression) → List (DeclaratorTree ExpressionTree)
-further_locals rest = behind_commas (map (view_further view_expression) rest)
-
--- all of them
+-- the declarators of a declaration
 abbrev pub locals_in : declarations.Declaration Expression → List (DeclaratorTree ExpressionTree)
 locals_in d = declarators_of (view_local d)
 
@@ -82,13 +77,7 @@ IsAdded scopes old new d =
     option_map (λ own. map view.declarator old.items ++ own ∷ []) (resolved_declarator scopes (local_tree d))
     ≡ Some (map view.declarator new.items)
 
--- the variables behind the first stand behind those before them, resolved, unless one is refused
-abbrev pub AddsFurtherLocals : {T : Type 0} → Result T SourceFault → Scopes → Vec ResolvedDeclarator Global
-    → Vec ResolvedDeclarator Global → List (Span × Declarator Expression) → Type 0
-AddsFurtherLocals result scopes old new rest = Adds view.declarator result old new
-    (resolved_declarators scopes (further_locals rest))
-
--- and so do all that a declaration has
+-- the variables of a declaration stand behind those before them, resolved, unless one is refused
 abbrev pub AddsLocalsOf : {T : Type 0} → Result T SourceFault → Scopes → Vec ResolvedDeclarator Global
     → Vec ResolvedDeclarator Global → declarations.Declaration Expression → Type 0
 AddsLocalsOf result scopes old new d = Adds view.declarator result old new (resolved_declarators scopes (locals_in d))
@@ -111,11 +100,7 @@ name_breaches_of scopes d = global_name_breaches scopes (global_tree d)
 abbrev pub HasCellsFor : Scopes → Declarator SignedNumber → Type 0
 HasCellsFor scopes d = scopes.cells + cells_of d.array ≤ GLOBAL_CELL_LIMIT
 
--- the declarators behind the first of a declaration
-abbrev pub further_globals : List (Span × Declarator SignedNumber) → List (DeclaratorTree SignedNumber)
-further_globals rest = behind_commas (map (view_further view_number) rest)
-
--- all of them
+-- the declarators of a declaration
 abbrev pub globals_in : declarations.Declaration SignedNumber → List (DeclaratorTree SignedNumber)
 globals_in d = declarators_of (view_global d)
 

@@ -1,5 +1,5 @@
 -- The names that clauses list, and what is promised of a function that takes them.
-use Rattle.std.specs.Prelude.{◌≡◌, ◌++◌, List, OnOk, Option, Result, Some, Vec, fold, map, option_map}
+use Rattle.std.specs.Prelude.{◌≡◌, List, OnOk, Option, Result, Vec, fold, map}
 use Rattle.std.specs.List.{flat_map}
 use Rattle.std.specs.declared.alloc.Global.{Global}
 use Rattle.om_lexer.specs.declared.fault.SourceFault.{SourceFault}
@@ -45,10 +45,6 @@ view_items items = map (map_item view_expression) items
 abbrev pub view_taken : Listed × Vec ResolvedClause Global → List ResolvedClauseTree
 view_taken taken = map view.clause taken.1.items
 
--- the names behind the first of a list
-abbrev pub further_names : List (Span × names.Name) → List names.Name
-further_names rest = map (λ further. further.1) rest
-
 -- what clauses list, beside one another
 abbrev pub listed_in : List (ClauseItem ExpressionTree) → Listed
 listed_in items = fold after_item nothing_listed items
@@ -75,11 +71,6 @@ abbrev pub ChecksNames : {T : Type 0} → Result T SourceFault → listings.List
 ChecksNames result listing old ns = Checks result
     (names_breaches listing.symbols.now (sharing_of listing.kind) old ns)
 
--- the names are listed behind those before them, unless one is refused
-abbrev pub ListsNames : {T : Type 0} → Result T SourceFault → listings.Listing → Listed → Listed → List names.Name
-    → Type 0
-ListsNames result listing old new ns = OnOk result (new ≡ after_names (sharing_of listing.kind) old ns)
-
 -- what the clause says of each of these names
 abbrev pub listed_clauses : listings.Listing → List names.Name → Option (List ResolvedClauseTree)
 listed_clauses listing = each (resolved_listed listing.kind listing.symbols.now)
@@ -87,14 +78,10 @@ listed_clauses listing = each (resolved_listed listing.kind listing.symbols.now)
 -- all the names of a list are listed behind those before them, unless one is refused
 abbrev pub ListsAll : {T : Type 0} → Result T SourceFault → listings.Listing → Listed → Listed → names.Name
     → List (Span × names.Name) → Type 0
-ListsAll result listing old new first rest = ListsNames result listing old new (names_in first rest)
+ListsAll result listing old new first rest =
+    OnOk result (new ≡ after_names (sharing_of listing.kind) old (names_in first rest))
 
--- what the clause says of the names behind the first stands behind what was there, unless one is refused
-abbrev pub AddsFurther : {T : Type 0} → Result T SourceFault → listings.Listing → Vec ResolvedClause Global
-    → Vec ResolvedClause Global → List (Span × names.Name) → Type 0
-AddsFurther result listing old new rest = Adds view.clause result old new (listed_clauses listing (further_names rest))
-
--- the same of all the names of a list
+-- what the clause says of all the names of a list stands behind what was there, unless one is refused
 abbrev pub AddsAll : {T : Type 0} → Result T SourceFault → listings.Listing → Vec ResolvedClause Global
     → Vec ResolvedClause Global → names.Name → List (Span × names.Name) → Type 0
 AddsAll result listing old new first rest =
@@ -124,16 +111,6 @@ ResolvesDirective result scopes flow d = Resolves view_taken result (directive_b
     (resolved_clauses scopes d.clauses)
 
 -- ---- what is promised of the list of a `flush`
-
--- the first breach of the names is refused
-abbrev pub ChecksFlushed : {T : Type 0} → Result T SourceFault → Scopes → List names.Name → Type 0
-ChecksFlushed result scopes ns = Checks result (flat_map (flushed_breaches scopes) ns)
-
--- the variables of the names behind the first stand behind those before them, unless one is refused
-abbrev pub AddsFlushed : {T : Type 0} → Result T SourceFault → Scopes → Vec Variable Global → Vec Variable Global
-    → List (Span × names.Name) → Type 0
-AddsFlushed result scopes old new rest = OnOk result
-    (option_map (λ own. old.items ++ own) (each (variable_named scopes) (further_names rest)) ≡ Some new.items)
 
 -- one of the names is refused, or the variables of all are found
 abbrev pub ResolvesFlushed : Result (List Variable) SourceFault → Scopes → List names.Name → Type 0

@@ -9,7 +9,8 @@ ghost use Rattle.om_scope_rules.specs.Resolution.{variable_named, variable_of};
 ghost use Rattle.om_scope_tree.specs.ResolvedView as view;
 ghost use Rattle.om_scope_rules.specs.StatementResolution.{clause_of, kind_of};
 ghost use Rattle.om_scope_parts.specs.Lists.{AddsAll, AddsClause, ChecksClause, ChecksListed, ChecksNames, ListsAll};
-ghost use Rattle.om_scope_parts.specs.Lists.{ListsName, ResolvesClauses, ResolvesDirective, ResolvesFlush, ResolvesFlushed};
+ghost use Rattle.om_scope_parts.specs.Lists.{ListsName, ResolvesClauses, ResolvesDirective, ResolvesFlush};
+ghost use Rattle.om_scope_parts.specs.Lists.{ResolvesFlushed};
 ghost use Rattle.om_scope_parts.specs.Lists.{ResolvesListed, listed_in, view_clause, view_items};
 
 use crate::declaration::local_of;

@@ -39,8 +39,8 @@ loop-name-preserved c =
     let pushed = ap (map view.clause) added.2 ∙ map-push view.clause made clause in
     record {
       rules = rw behind (unbroken-step (listed_breaches c.args.listing.now.symbols.now
-          (sharing_of c.args.listing.now.kind)) (after_name (sharing_of c.args.listing.now.kind)) (rw here at c.loop-name.invariant.rules)
-          checked);
+          (sharing_of c.args.listing.now.kind)) (after_name (sharing_of c.args.listing.now.kind))
+          (rw here at c.loop-name.invariant.rules) checked);
       resolved =
           (rw here at c.loop-name.invariant.resolved)
           ∙ each-step part c.in-Some.name.now rest (map view.clause made) (view.clause clause) found

@@ -12,5 +12,6 @@ invariant-loop-name l =
     let left = l.name-iterator in
     record {
       rules : flat_map (flushed_breaches l.symbols) all ≡ flat_map (flushed_breaches l.symbols) left;
-      resolved : each (variable_named l.symbols) all ≡ made_and l.variables.items (each (variable_named l.symbols) left);
+      resolved : each (variable_named l.symbols) all
+          ≡ made_and l.variables.items (each (variable_named l.symbols) left);
     }
