@@ -1,4 +1,4 @@
-//! Text, tokens, trees: the lower half of the parser: reads expressions, operators, declarations, directive lines.
+//! Text, tokens, trees: the lower half of the parser: reads expressions, also those of directives, and declarations.
 //!
 //! These are the parts of statements that are no statements (C17 6.5 and 6.7; OpenMP API 5.2). om_parser
 //! reads the rest.

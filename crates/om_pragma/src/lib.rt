@@ -1,4 +1,4 @@
-//! Text, tokens, trees: one `#pragma omp` line: its directive, clauses, their arguments; which directive has which.
+//! Text, tokens, trees: reads one `#pragma omp` line: its directive, clauses, arguments; which directive has which.
 //!
 //! `directive` turns the tokens of one line into a `Directive` (OpenMP API 5.2). Its expressions are slices
 //! of these tokens, which om_parser_parts reads. Any other line is refused with S3, S5 or S6.
