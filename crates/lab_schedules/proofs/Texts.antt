@@ -13,3 +13,8 @@ pub times_next : (now more all text : List ℕ) (n : ℕ) → 0 < n → now ++ t
 times_next now more all text n h so_far added =
     ap (λ t. t ++ times (n - 1) text) added ∙ append_assoc now text (times (n - 1) text)
     ∙ ap (λ t. now ++ t) (sym (times_first n text h)) ∙ so_far
+
+-- two texts that are appended in turn
+pub appended_two : (old one two first second : List ℕ) → one ≡ old ++ first → two ≡ one ++ second → two ≡ old
+    ++ (first ++ second)
+appended_two old one two first second e f = f ∙ ap (λ t. t ++ second) e ∙ append_assoc old first second

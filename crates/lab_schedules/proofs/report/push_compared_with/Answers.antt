@@ -1,6 +1,6 @@
 use Rattle.std.specs.Prelude.{List, ℕ, ◌++◌, codes}
 use Rattle.lab_schedules.specs.Reports.{of_seed}
-use Rattle.lab_judge.proofs.Texts.{appended_two}
+use Rattle.lab_schedules.proofs.Texts.{appended_two}
 use Rattle.lab_schedules.proofs.report.push_compared_with.Goals as goal
 
 pub returns : goal.returns

@@ -1,4 +1,4 @@
-use Rattle.lab_judge.proofs.Texts.{appended_two}
+use Rattle.lab_schedules.proofs.Texts.{appended_two}
 use Rattle.lab_schedules.proofs.report.push_some_unconfirmed.Goals as goal
 
 pub returns : goal.returns
