@@ -17,7 +17,6 @@ mod beginnings;
 mod books;
 mod checks;
 mod ends;
-mod fibonacci;
 mod free_tasks;
 mod judge;
 mod memory;
