@@ -10,10 +10,11 @@ const STATUSES: &str = "With --version alone, standard output tells the version.
 
 Exit status:
   0  it is done, and nothing bad was found; or help, or the version is told
-  1  something bad was found: `hunt` a schedule, `check` a source that is refused; `port` has a text that is
-     refused, or that --strict holds back
+  1  something bad was found: `hunt` a schedule, `explore` a second end, a fault or a race, `races` a race,
+     `check` a source that is refused; `port` has a text that is refused, or that --strict holds back
   2  wrong words
   3  a fault, told on standard error: H3 a read failed, H4 a write failed, H5 no memory
+  4  nothing bad was found, and not all was looked at: `explore` and `races`
   5  the source is refused (but by `check` and `port`); standard error tells why and where";
 
 const SESSION: &str =
@@ -143,6 +144,63 @@ fn cone<'a>(alloc: Global) -> Arg<'a> {
     )
 }
 
+// What is said of both subcommands that look at all schedules.
+const SCHEDULES: &str =
+    "Complete speaks of the schedules of a machine: N workers, one instruction a step, and memory that all see in one
+order. A ready task is begun at a barrier, at a wait, at a yield and where a task or a thread ends. Accesses meet
+where two workers stand before them at one moment, and one of them stores. Each pair that meets is a data race;
+accesses that only a chunk, a section or an atomic access orders never meet.";
+
+fn explore<'a>(alloc: Global) -> AllocResult<Command<'a>> {
+    let command = Command::new(alloc, "explore")
+        .about("Looks at all schedules: every end, fault and race, each with a way there")
+        .after_help(SCHEDULES);
+    limited(alloc, command)
+}
+
+fn races<'a>(alloc: Global) -> AllocResult<Command<'a>> {
+    let command = Command::new(alloc, "races")
+        .about("Looks at all schedules for accesses that meet, with both lines of each pair")
+        .after_help(SCHEDULES);
+    limited(alloc, command)
+}
+
+// A command with the limits of an exploration, and its file.
+fn limited<'a>(alloc: Global, command: Command<'a>) -> AllocResult<Command<'a>> {
+    let command = command.arg(states(alloc));
+    let command = with(command, most_steps(alloc));
+    let command = with(command, way(alloc));
+    with(command, file(alloc, true))
+}
+
+fn states<'a>(alloc: Global) -> Arg<'a> {
+    number(
+        alloc,
+        "states",
+        "M",
+        "How many states are stored at most; where there are more, the answer is not complete",
+    )
+    .default_value("1000000")
+}
+
+fn most_steps<'a>(alloc: Global) -> Arg<'a> {
+    number(
+        alloc,
+        "steps",
+        "K",
+        "Stops behind so many steps; without it there is no such limit",
+    )
+}
+
+fn way<'a>(alloc: Global) -> Arg<'a> {
+    number(
+        alloc,
+        "script",
+        "I",
+        "Writes the commands for ompback that lead to number I, in place of the report",
+    )
+}
+
 fn notes<'a>(alloc: Global) -> AllocResult<Command<'a>> {
     Command::new(alloc, "notes")
         .about("Passes the answers of `ompback FILE` on, with words after them")
@@ -192,6 +250,8 @@ pub(crate) fn omplab<'a>(alloc: Global) -> AllocResult<Command<'a>> {
     let command = over(command, check(alloc));
     let command = over(command, port(alloc));
     let command = over(command, hunt(alloc));
+    let command = over(command, explore(alloc));
+    let command = over(command, races(alloc));
     let command = over(command, script(alloc));
     let command = over(command, notes(alloc));
     over(command, draw(alloc))

@@ -2,8 +2,8 @@
 //!
 //! - `command` names the subcommands, and `words` reads the command line. `main` joins it with files and
 //!   streams, and `faults` says on standard error why there is no answer.
-//! - `subcommands` does each over any streams: `check`, `hunt`, `script`, `notes`, `draw`; and `port` does
-//!   `port`. A `Meter` tells how far a hunt is.
+//! - `subcommands` does each over any streams: `check`, `hunt`, `script`, `notes`, `draw`; `port` does `port`,
+//!   and `explore` both `explore` and `races`. A `Meter` tells how far a hunt is.
 //! - A new subcommand is a crate of its own, with its part in `command`, `words` and `subcommands`, and a row
 //!   of `tests/subcommands.py`.
 #![tactic(auto)]
@@ -11,18 +11,21 @@
 ghost use Rattle.std.specs.Prelude.{◌<◌, ◌≤◌};
 
 mod command;
+mod explore;
 mod faults;
 mod meter;
 mod port;
 mod subcommands;
 mod words;
 
+use crate::explore::explore;
 use crate::faults::{source_in, told};
 use crate::port::port;
 use crate::subcommands::{Host, Search, check, draw, explain, hunt, keep};
 use crate::words::{Asked, Words, ask_for_version, words_in};
 use clap::Error;
 use clap::error::ErrorKind;
+use lab_explore_answer::Question;
 use lab_text::status::{DONE, FAULT, WORDS};
 use om_parser::STACK_SIZE;
 use om_seq::AllocResult;
@@ -43,6 +46,7 @@ fn file_of<'a>(asked: Asked<'a>) -> Option<&'a str> {
         Asked::Check { file } => Some(file),
         Asked::Port { file, .. } => Some(file),
         Asked::Hunt { file, .. } => Some(file),
+        Asked::Explore { file, .. } => Some(file),
         Asked::Notes { file } => Some(file),
         Asked::Script { file, .. } => file,
         Asked::Draw { file } => file,
@@ -73,6 +77,20 @@ fn done<R: Runtime + Threads + Wait + Sync>(
                 expected,
             };
             hunt(host, search, &mut writer)
+        }
+        Asked::Explore {
+            subject,
+            limits,
+            script,
+            ..
+        } => {
+            let question = Question {
+                subject,
+                workers: host.options.workers,
+                limits,
+                script,
+            };
+            explore(host, &question, &mut writer)
         }
         Asked::Notes { .. } => explain(host, &mut host.rt.reader(), &mut writer),
         Asked::Script { cone, .. } => keep(host, cone, &mut host.rt.reader(), &mut writer),

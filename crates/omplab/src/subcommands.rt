@@ -49,16 +49,16 @@ impl<H> Host<'_, '_, H> {
         let _ = send(&mut errors, text);
     }
 
-    // Shows words on one line of standard error in place of those before, where that is watched.
-    fn show(&self, words: &str) {
+    /// Shows words on one line of standard error in place of those before, where that is watched.
+    pub(crate) fn show(&self, words: &str) {
         if self.is_watched {
             self.tell(AGAIN.as_bytes());
             self.tell(words.as_bytes());
         }
     }
 
-    // Tells on standard error why a source is refused, and answers the exit status.
-    fn refuse(&self, source: &[u8]) -> Result<u8, ShellFault> {
+    /// Tells on standard error why a source is refused, and answers the exit status.
+    pub(crate) fn refuse(&self, source: &[u8]) -> Result<u8, ShellFault> {
         let report = self.report(source)?;
         self.tell(&report.text);
         Ok(REFUSED)

@@ -4,6 +4,8 @@ ghost use Rattle.std.specs.Prelude.{◌<◌, ◌≤◌, IfOk, IfSome};
 use crate::command::omplab;
 use clap::error::ErrorKind;
 use clap::{ArgMatches, Command, Error};
+use lab_explore_answer::Subject;
+use lab_explore_closed::Limits;
 use std::alloc::Global;
 
 /// What the words ask for.
@@ -39,6 +41,15 @@ pub enum Asked<'a> {
         steps: u64,
         /// What the program is to print; where it is `None`, what `run` prints.
         expected: Option<&'a str>,
+    },
+    /// To look at all schedules.
+    Explore {
+        file: &'a str,
+        /// Whether all ends are asked for, or the accesses that meet alone.
+        subject: Subject,
+        limits: Limits,
+        /// The number, from 1, of the end or pair whose commands are asked for.
+        script: Option<u64>,
     },
     /// To write the steps that a session leaves as a script, or those of a cone.
     Script {
@@ -120,6 +131,8 @@ fn asked_by<'a>(name: &str, given: &ArgMatches<'a>) -> Option<Asked<'a>> {
             list: given.get_flag("list"),
         },
         "hunt" => hunt_by(file?, given)?,
+        "explore" => explore_by(file?, Subject::Ends, given)?,
+        "races" => explore_by(file?, Subject::Races, given)?,
         "script" => Asked::Script {
             file,
             cone: given.get_one::<u64>("cone"),
@@ -127,6 +140,19 @@ fn asked_by<'a>(name: &str, given: &ArgMatches<'a>) -> Option<Asked<'a>> {
         "notes" => Asked::Notes { file: file? },
         "draw" => Asked::Draw { file },
         _ => return None,
+    })
+}
+
+// What is asked for of all schedules.
+fn explore_by<'a>(file: &'a str, subject: Subject, given: &ArgMatches<'a>) -> Option<Asked<'a>> {
+    Some(Asked::Explore {
+        file,
+        subject,
+        limits: Limits {
+            states: given.get_one::<u64>("states")?,
+            steps: given.get_one::<u64>("steps"),
+        },
+        script: given.get_one::<u64>("script"),
     })
 }
 
