@@ -3,9 +3,11 @@
 ghost use Rattle.std.specs.Prelude.{◌≡◌};
 
 use crate::hunts::hunted;
+use crate::schedules::explored;
 use crate::sections::{Given, cut};
 use lab_check::{Report, report};
 use lab_draw::{Page, page};
+use lab_explore_answer::Subject;
 use lab_notes::annotate;
 use lab_script::{Script, ScriptFault, cone, script};
 use lab_text::status::{BAD, DONE, REFUSED, WORDS};
@@ -43,6 +45,8 @@ pub(crate) fn written_by<R: Threads + Wait + Sync>(
     match name {
         "check" => Ok(checked(alloc, given)?),
         "hunt" => hunted(rt, alloc, numbers, given),
+        "explore" => explored(alloc, Subject::Ends, numbers, given),
+        "races" => explored(alloc, Subject::Races, numbers, given),
         "script" => scripted(rt, alloc, given),
         "cone" => coned(rt, alloc, number_in(numbers), given),
         "notes" => noted(alloc, given),

@@ -1,0 +1,77 @@
+//! What is found in all schedules, in an order of its own. Paths, numbers, who stands before an access and how much was
+//! looked at depend on the order of the search, and are left out.
+
+use crate::sections::{Given, cut};
+use crate::subcommands::{Written, number_in, output_of, refused};
+use lab_explore_answer::{Question, Subject, answer};
+use lab_explore_closed::Limits;
+use lab_script::ScriptFault;
+use om_seq::AllocResult;
+use std::alloc::Global;
+
+// How many states are stored at most, where the words do not say it.
+const MOST_STATES: u64 = 1_000_000;
+
+/// What is found in all schedules of a source. The words are the number of workers, 2 or 3, and how many states are
+/// stored at most.
+pub(crate) fn explored(
+    alloc: Global,
+    subject: Subject,
+    numbers: &str,
+    given: Given<'_>,
+) -> Result<Written, ScriptFault> {
+    let (workers, states) = cut(numbers, ' ');
+    let states = if states.is_empty() {
+        MOST_STATES
+    } else {
+        number_in(states)
+    };
+    let question = Question {
+        subject,
+        workers: if workers == "3" { 3 } else { 2 },
+        limits: Limits {
+            states,
+            steps: None,
+        },
+        script: None,
+    };
+    match answer(alloc, given.source, &question)? {
+        Some(answer) => {
+            let text = facts(alloc, str::from_utf8(&answer.text).unwrap_or("no text"))?;
+            Ok(output_of(alloc, answer.status, text))
+        }
+        None => Ok(refused(alloc, given, Vec::new(alloc))?),
+    }
+}
+
+// The first line of a report, and then what was found, each fact a line, in the order of their texts.
+fn facts(alloc: Global, report: &str) -> AllocResult<Vec<u8>> {
+    let (first, rest) = cut(report, '\n');
+    let mut lines: Vec<&str> = Vec::new(alloc);
+    for line in rest.lines() {
+        if !line.starts_with("   ") && !line.ends_with(" steps") {
+            lines.push(fact_in(line))?;
+        }
+    }
+    lines.sort()?;
+    let mut text = Vec::new(alloc);
+    push_line(&mut text, first)?;
+    for line in &lines {
+        push_line(&mut text, line)?;
+    }
+    Ok(text)
+}
+
+// A line without its number, and without who stands before an access.
+fn fact_in(line: &str) -> &str {
+    let (fact, _) = line.split_once(" it; ").unwrap_or((line, ""));
+    match fact.split_once(": ") {
+        Some((number, rest)) if number.parse::<u64>().is_ok() => rest,
+        _ => fact,
+    }
+}
+
+fn push_line(text: &mut Vec<u8>, line: &str) -> AllocResult<()> {
+    text.extend_from_slice(line.as_bytes())?;
+    text.extend_from_slice(b"\n")
+}
