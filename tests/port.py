@@ -2,14 +2,15 @@
 
     python3 tests/port.py PORT [NAME ..]
 
-PORT is a program that reads a source on its standard input, and writes the ported text, a line `====` and the list
-of changes: crates/gate_port/out/gate_port. Each file of tests/port has cases: a line `== TITLE`, and a C source.
+PORT is the words of a program that reads a source on its standard input, and writes the ported text, a line `====` and
+the list of changes: 'crates/gate/out/gate port'. Each file of tests/port has cases: a line `== TITLE`, and a C source.
 A title ends with `(refused)` where the subset has no form for what is left. The text is built by gcc as the source is. Where output or status differ, the list has to have a warning of the kind
 `wrong value` or `fault` or `differs`; else the case fails. Each case is also ported again: the text has to stay as it is.
 """
 
 import os
 import re
+import shlex
 import subprocess
 import sys
 import tempfile
@@ -30,7 +31,7 @@ def cases(names):
 
 
 def ported(program, source):
-    ran = subprocess.run([program], input=source.encode(), capture_output=True, timeout=60)
+    ran = subprocess.run(program, input=source.encode(), capture_output=True, timeout=60)
     text, _, listing = ran.stdout.partition(b"====\n")
     return ran.returncode, text.decode(), listing.decode()
 
@@ -65,7 +66,8 @@ def fault_of(program, folder, title, source):
 
 
 def main():
-    program, names = os.path.abspath(sys.argv[1]), sys.argv[2:]
+    program, *words = shlex.split(sys.argv[1])
+    program, names = [os.path.abspath(program), *words], sys.argv[2:]
     begun, count, failed = time.time(), 0, 0
     with tempfile.TemporaryDirectory() as folder:
         for title, source in cases(names):

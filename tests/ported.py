@@ -1,8 +1,8 @@
 #!/usr/bin/env python3
 """ported.py PORT FOLDER: how many of gcc's OpenMP programs are accepted as they are, and how many as they are ported.
 
-PORT reads a source on its standard input, and writes the ported text, a line `====` and the list of changes:
-crates/gate_port/out/gate_port. FOLDER is gcc's sources: Debian's package gcc-12-source has an archive of them.
+PORT is the words of a program that reads a source on its standard input, and writes the ported text, a line `====` and
+the list of changes: 'crates/gate/out/gate port'. FOLDER is gcc's sources: Debian's package gcc-12-source has an archive of them.
 gcc_programs.txt names the programs, each with its set: WIDE have directives of docs/LANGUAGE.md alone, and no floating
 point; of these NARROW have no pointers, structs, storage that is asked for, and words of gcc alone; of these STRICT
 have no clauses that docs/LANGUAGE.md has not. Whether a text is accepted, the model beside this file says.
@@ -10,6 +10,7 @@ With --list each program of NARROW is named that is not accepted as it is ported
 It needs Python 3 with its standard library alone.
 """
 import os
+import shlex
 import subprocess
 import sys
 
@@ -36,7 +37,7 @@ def refusal(text):
 
 def ported(program, text):
     """The text that a source becomes."""
-    return subprocess.run([program], input=text, capture_output=True, timeout=60).stdout.partition(b"====\n")[0]
+    return subprocess.run(program, input=text, capture_output=True, timeout=60).stdout.partition(b"====\n")[0]
 
 
 def programs():
@@ -47,7 +48,8 @@ def programs():
 
 def main():
     words = [word for word in sys.argv[1:] if word != "--list"]
-    program, folder = os.path.abspath(words[0]), words[1]
+    program, *more = shlex.split(words[0])
+    program, folder = [os.path.abspath(program), *more], words[1]
     counts = {name: [0, 0, 0] for name in SETS}
     for smallest, path in programs():
         with open(os.path.join(folder, path), "rb") as file:

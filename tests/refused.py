@@ -9,7 +9,7 @@ INPUT is the standard input (the stored run, crates/ompback/stdin, if not given)
 loaded before the C library; it refuses the N-th call of one kind. Of each such run three things are wanted: that it ends,
 that it ends with status 3 and the right fault on standard error (or as the whole run does, where nothing was lost), and
 that what it wrote is a beginning of what the whole run writes.
-CASES is the program of cases, crates/gate_cases/out/gate_cases, and TITLE that of a section of its stdin. Each of its
+CASES is the program of all cases, crates/gate/out/gate, and TITLE that of a section of its data/cases.txt. Each of its
 runs ends as the whole run does, or out of memory: an answer that changes in place of that is wrong.
 With --requests the library refuses nothing: it counts the requests between two answers. More than 20 of them are wrong.
 The last line counts the runs; the status is 1 where one of them is wrong.
@@ -164,7 +164,7 @@ def count_sessions(program, folder):
 
 def case_of(program, title):
     """The input of the section of a title, which may stand behind a word."""
-    with open(os.path.join(os.path.dirname(program), "../stdin"), "rb") as f:
+    with open(os.path.join(os.path.dirname(program), "../data/cases.txt"), "rb") as f:
         sections = f.read().split(b"\n== ")[1:]
     for section in sections:
         head, _, _ = section.partition(b"\n")
@@ -177,7 +177,7 @@ def main():
     words = [os.path.abspath(sys.argv[1])] + sys.argv[2:] if len(sys.argv) > 1 else []
     if len(words) == 3 and words[1] == "--case":
         case = case_of(words[0], words[2])
-        sys.exit(count_runs([words[0]], case, ["REFUSE_MEMORY", "REFUSE_GROWTH"], is_judged_or_wants_memory))
+        sys.exit(count_runs([words[0], "cases"], case, ["REFUSE_MEMORY", "REFUSE_GROWTH"], is_judged_or_wants_memory))
     if len(words) == 2 and words[1] == "--requests":
         sys.exit(count_requests(words[0]))
     here = os.path.dirname(os.path.abspath(__file__))

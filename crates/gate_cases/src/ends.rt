@@ -1,7 +1,7 @@
 //! Sessions over ends that give or take little at a time, or fail.
 
-use crate::fibonacci::fibonacci;
 use crate::memory::{Pieces, Sink, session_over};
+use gate_sources::RUN_AND_UNDOS;
 use om_shell::ShellFault;
 use std::alloc::Global;
 use std::sync::Wait;
@@ -91,17 +91,7 @@ x = 0
         calls: 33,
     },
     Script {
-        input: fibonacci!(
-            2,
-            r#"run 100000
-output
-events 0
-undo 1
-undo 1
-undo 0
-undo 0
-"#
-        ),
+        input: RUN_AND_UNDOS,
         output: r#"ran 68 ended
 output 2 bytes
 1

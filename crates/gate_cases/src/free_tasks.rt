@@ -1,31 +1,11 @@
 //! Free runs of a program of tasks, until it has ended.
 
-use crate::fibonacci::fibonacci;
 use crate::sessions::told_of;
+use gate_sources::FREE_RUNS;
 use om_seq::AllocResult;
 use std::alloc::Global;
 use std::sync::Wait;
 use std::thread::Threads;
-
-// A program that makes 188 steps in all, whoever makes them. After each free run at least one
-// more of its waits has ended: so ten suffice, in whatever order the workers come.
-const SESSION: &str = fibonacci!(
-    4,
-    r#"free 1000
-free 1000
-free 1000
-free 1000
-free 1000
-free 1000
-free 1000
-free 1000
-free 1000
-free 1000
-history
-where 0
-output
-"#
-);
 
 // How many steps the program makes.
 const STEPS: u64 = 188;
@@ -38,7 +18,7 @@ pub(crate) fn free_runs_end_tasks<R: Threads + Wait + Sync>(
     rt: &R,
     alloc: Global,
 ) -> AllocResult<bool> {
-    let told = told_of(rt, alloc, 2, SESSION.as_bytes())?;
+    let told = told_of(rt, alloc, 2, FREE_RUNS.as_bytes())?;
     let text = str::from_utf8(told.text.as_slice()).unwrap_or("no text");
     Ok(steps_freed(text) == STEPS && steps_shown(text) == STEPS && text.ends_with(END))
 }

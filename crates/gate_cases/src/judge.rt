@@ -13,7 +13,7 @@ use std::thread::Threads;
 
 /// What is said of the sections.
 #[derive(Drop)]
-pub(crate) struct Report {
+pub struct Report {
     /// What is said of each section, and the count of the sources.
     pub text: String,
     /// How many sources there are.
@@ -22,12 +22,8 @@ pub(crate) struct Report {
     pub wrong: u64,
 }
 
-/// Judges the sections of an input.
-pub(crate) fn judge<R: Threads + Wait + Sync>(
-    rt: &R,
-    alloc: Global,
-    input: &str,
-) -> AllocResult<Report> {
+/// Judges the sections of an input, and calls each law of the front end and of scripts. Its only error is out of memory.
+pub fn judge<R: Threads + Wait + Sync>(rt: &R, alloc: Global, input: &str) -> AllocResult<Report> {
     call_laws();
     let mut report = Report {
         text: String::new(alloc),

@@ -15,8 +15,9 @@ use std::alloc::Global;
 use std::sync::Wait;
 use std::thread::Threads;
 
-/// Makes all checks. A line of the text says of each whether it is right.
-pub(crate) fn checked<R: Threads + Wait + Sync>(rt: &R, alloc: Global) -> AllocResult<String> {
+/// Makes all checks, and calls each law of the machine. A line of the text says of each check whether it is right. Its
+/// only error is out of memory.
+pub fn checked<R: Threads + Wait + Sync>(rt: &R, alloc: Global) -> AllocResult<String> {
     call_laws();
     let mut told = String::new(alloc);
     match add_checks(rt, alloc, &mut told) {

@@ -4,32 +4,14 @@ use crate::driven::two_gates;
 use crate::machine_of_two::{BookOfTwo, Lengths};
 use crate::table::{Ran, Table};
 use crate::undos::TASKS;
+use gate_sources::FIBONACCI_OF_4;
 use om_drive::Errand;
 use om_seq::AllocResult;
 use std::alloc::Global;
 use std::sync::Wait;
 use std::thread::Threads;
 
-// The fourth Fibonacci number by a task for each call.
-const FIBONACCI: &str = r#"#include <stdio.h>
-int fib(int n){
-int a, b;
-if (n < 2) return n;
-#pragma omp task shared(a)
-a = fib(n - 1);
-#pragma omp task shared(b)
-b = fib(n - 2);
-#pragma omp taskwait
-return a + b;
-}
-int main(void){
-#pragma omp parallel
-#pragma omp single
-printf("%d\n", fib(4));
-}
-"#;
-
-// How many steps `FIBONACCI` makes, whoever makes them.
+// How many steps `FIBONACCI_OF_4` makes, whoever makes them.
 const FIBONACCI_STEPS: u64 = 188;
 
 // How many steps `TASKS` makes: FORK and FIN, BEGIN, SPAWN, ARRIVE and LEAVE of each thread, and of each task its
@@ -45,7 +27,10 @@ pub(crate) fn free_runs_are_recorded<R: Threads + Wait + Sync>(
     rt: &R,
     alloc: Global,
 ) -> AllocResult<bool> {
-    Ok(runs_end(rt, alloc, TASKS, TASKS_STEPS)? && runs_end(rt, alloc, FIBONACCI, FIBONACCI_STEPS)?)
+    Ok(
+        runs_end(rt, alloc, TASKS, TASKS_STEPS)?
+            && runs_end(rt, alloc, FIBONACCI_OF_4, FIBONACCI_STEPS)?,
+    )
 }
 
 // Whether free runs make so many steps of a program, and each tells them rightly.

@@ -21,8 +21,8 @@ pub(crate) struct Given<'a> {
     pub input: Option<&'a [u8]>,
 }
 
-/// What is told of all sections.
-pub(crate) fn told<R: Threads + Wait + Sync>(
+/// What is told of all sections of a text. Its errors are those of the calls that are made.
+pub fn told<R: Threads + Wait + Sync>(
     rt: &R,
     alloc: Global,
     input: &str,

@@ -13,8 +13,8 @@ use om_shell_commands::{Command, Request, request_of};
 use om_state::{Choice, Label};
 use std::alloc::Global;
 
-/// What is told of all sections, and of the one check that is no session.
-pub(crate) fn told(alloc: Global, input: &str) -> AllocResult<Vec<u8>> {
+/// What is told of all sections of a text, and of the one check that is no session. Its only error is out of memory.
+pub fn told(alloc: Global, input: &str) -> AllocResult<Vec<u8>> {
     let mut text = Vec::new(alloc);
     for section in input.split("\n== ").skip(1) {
         add_section(alloc, &mut text, section)?;

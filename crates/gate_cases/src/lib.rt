@@ -1,6 +1,7 @@
-//! Cases and checks: a program that runs cases: sources with verdicts, sessions with answers, free runs; books left.
+//! Cases and checks: cases as text: sources with verdicts, sessions with answers, free runs; books left.
 //!
-//! Cases are the sections of `stdin`; what is said of them is compared with `stdout`. A section `== STAGE
+//! Cases are the sections of a text, and what is said of them is text. The program `gate` reads the first and prints
+//! the second. A section `== STAGE
 //! TITLE` has sources, each with the verdict that is wanted of that stage of the front end: `lexer`, `line`,
 //! `parser`, `resolver` or `code`. In a section `== beginnings TITLE` each beginning of a source is tried.
 //! Any other section is a session of several workers.
@@ -16,7 +17,6 @@ mod beginnings;
 mod books;
 mod checks;
 mod ends;
-mod fibonacci;
 mod free_tasks;
 mod judge;
 mod memory;
@@ -24,24 +24,4 @@ mod sessions;
 mod stage;
 mod written;
 
-use crate::judge::judge;
-use anyhow::{Result, ensure};
-use om_parser::STACK_SIZE;
-use std::io;
-use std::thread::Builder;
-
-fn main(rt: HostRuntime) -> Result<()> {
-    let alloc = rt.alloc();
-    let input = io::read_to_string(alloc, rt.reader())?;
-    let thread = Builder::new()
-        .stack_size(STACK_SIZE)
-        .spawn(&rt, move || judge(&rt, alloc, input.as_str()))?;
-    let report = thread.join(&rt)?;
-    print!(rt; "{}", report.text)?;
-    ensure!(
-        report.wrong == 0,
-        "{} sources are judged wrongly",
-        report.wrong
-    );
-    Ok(())
-}
+pub use crate::judge::{Report, judge};

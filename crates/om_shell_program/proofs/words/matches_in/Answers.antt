@@ -5,10 +5,10 @@ use Rattle.clap.specs.Facts.{args_of, groups_of}
 use Rattle.clap.specs.Words.{found_of, one_text, without_minus}
 use Rattle.clap.specs.declared.builder.command.Command.TheViews.{out-Command}
 use Rattle.clap.specs.declared.builder.value_parser.ValueParser.TheVariants as vp
-use Rattle.ompback.specs.Arguments.{IsFile, IsThreads}
-use Rattle.ompback.specs.Workers.{GivesWorkers}
-use Rattle.ompback.proofs.Defaults.{IsGiven, first_of_two_read}
-use Rattle.ompback.proofs.words.matches_in.Goals as goal
+use Rattle.om_shell_program.specs.Arguments.{IsFile, IsThreads}
+use Rattle.om_shell_program.specs.Workers.{GivesWorkers}
+use Rattle.om_shell_program.proofs.Defaults.{IsGiven, first_of_two_read}
+use Rattle.om_shell_program.proofs.words.matches_in.Goals as goal
 
 pub returns : goal.returns
 returns c =

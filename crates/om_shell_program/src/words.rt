@@ -1,7 +1,7 @@
 //! The words of the command line.
 ghost use Rattle.std.specs.Prelude.{◌<◌, ◌≤◌, IfOk};
-ghost use Rattle.ompback.specs.Arguments.{IsFile, IsThreads};
-ghost use Rattle.ompback.specs.Workers.{GivesWorkers};
+ghost use Rattle.om_shell_program.specs.Arguments.{IsFile, IsThreads};
+ghost use Rattle.om_shell_program.specs.Workers.{GivesWorkers};
 
 use clap::{Arg, ArgAction, ArgMatches, Command, Error};
 use std::alloc::Global;

@@ -18,7 +18,7 @@ use Rattle.clap.specs.declared.builder.value_parser.Reading.{Reading}
 use Rattle.clap.specs.declared.builder.value_parser.ValueParser.{ValueParser}
 use Rattle.clap.specs.declared.parser.matches.ArgMatches.{ArgMatches}
 use Rattle.clap.proofs.CallerLemmas.{added_plain, default_present, entry_by_id, same_rules_by_id}
-use Rattle.ompback.proofs.Entries.{entry_read, found_in}
+use Rattle.om_shell_program.proofs.Entries.{entry_read, found_in}
 
 -- an argument that takes one value at least, and has a default
 pub record IsGiven (a : Arg) (q : ValueParser) : Type 0 where

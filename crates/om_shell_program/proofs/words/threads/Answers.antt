@@ -1,8 +1,8 @@
 use Rattle.std.proofs.Common.{◌∙◌, ◌≡◌, rules}
 use Rattle.std.specs.Prelude.{Some, pos}
 use Rattle.clap.specs.declared.builder.value_parser.ValueParser.TheVariants as vp
-use Rattle.ompback.specs.Arguments.{IsThreads}
-use Rattle.ompback.proofs.words.threads.Goals as goal
+use Rattle.om_shell_program.specs.Arguments.{IsThreads}
+use Rattle.om_shell_program.proofs.words.threads.Goals as goal
 
 pub returns : goal.returns
 returns c =
