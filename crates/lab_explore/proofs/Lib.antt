@@ -1,0 +1,3 @@
+pub mod ActLemmas
+pub mod WayLemmas
+pub mod SearchLemmas

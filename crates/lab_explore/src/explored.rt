@@ -1,0 +1,85 @@
+//! The search from its beginning to its answer.
+
+ghost use Rattle.std.specs.Prelude.{◌≡◌, ◌≤◌, IfOk};
+ghost use Rattle.lab_explore_closed.specs.Explored.{IsExplored};
+ghost use Rattle.lab_explore.specs.Searches.{acts_of, IsSearch, Answers};
+
+use crate::search::Search;
+use lab_explore_closed::{Explored, Limits, Verdict};
+use lab_explore_notes::Notes;
+use om_code::Program;
+use om_seq::AllocResult;
+use std::alloc::Global;
+
+// How many things a search does at most: there are more serials of steps.
+const MOST_TURNS: u64 = 1 << 62;
+
+/// Explores all schedules of a program with 1 to 32 workers: every end, every fault that is met and every race.
+///
+/// Where the answer is complete, nothing else can happen in any schedule of this machine. It is not complete where
+/// more states were met than may be stored. It stops behind so many steps, where they are limited. Where there is no
+/// memory to go on, or behind 2^62 turns of the search, what was found so far is answered. The only error is that there
+/// is no memory to begin.
+pub fn explore(
+    alloc: Global,
+    program: Program,
+    workers: u8,
+    limits: &Limits,
+) -> AllocResult<Explored>
+    requires at_least_one { 1 ≤ workers }
+    requires at_most_32 { workers ≤ 32 }
+    ensures { IfOk result (IsExplored program workers limits.now) }
+{
+    let mut search = Search::begun(alloc, program, workers)?;
+    let verdict = run(alloc, &mut search, limits);
+    Ok(told(search, verdict))
+}
+
+// Goes on until nothing is left to be done, or a limit is met, or there is no memory.
+fn run(alloc: Global, search: &mut Search, limits: &Limits) -> Verdict
+    requires search { IsSearch search.old.machine.program search.old.machine.workers
+        (acts_of search.old) search.old }
+    requires unmoved { search.old.machine.history.made ≡ 0 }
+    ensures { Answers search.old.machine.program search.old.machine.workers limits.now result
+        search.new }
+{
+    for _turn in 0..MOST_TURNS {
+        match search.turn(alloc, limits) {
+            Ok(Some(verdict)) => return verdict,
+            Ok(None) => {}
+            Err(_) => return Verdict::OutOfMemory,
+        }
+    }
+    Verdict::OutOfMemory
+}
+
+// What a search tells that has stopped so.
+fn told(search: Search, verdict: Verdict) -> Explored
+    ensures { (program : _) (workers : _) (limits : _)
+        → Answers program workers limits verdict search → IsExplored program workers limits result }
+{
+    let Search {
+        machine,
+        stored,
+        todos,
+        notes,
+        steps,
+    } = search;
+    let states = stored.len() as u64;
+    drop(machine);
+    drop(stored);
+    drop(todos);
+    let Notes {
+        ends,
+        faults,
+        races,
+    } = notes;
+    Explored {
+        ends,
+        faults,
+        races,
+        verdict,
+        states,
+        steps,
+    }
+}

@@ -1,0 +1,134 @@
+-- Two workers whose next steps access one variable, and what tells two such pairs apart.
+use Rattle.std.specs.Prelude.{◌≡◌, ◌≢◌, ℕ, ◌<◌, Bool, true, false, cond, nat_eq, nat_lt, ◌&&◌, ◌||◌, is_some}
+use Rattle.std.specs.Prelude.{Option, None, Some, List, [], ◌∷◌, ◌++◌, zero, suc, length, Contains, if◌then◌else◌}
+use Rattle.om_code.specs.declared.instruction.Instr.{Instr}
+use Rattle.om_code.specs.declared.instruction.Instr.TheVariants as instr
+use Rattle.om_code.specs.declared.raw.Raw.{Raw}
+use Rattle.om_code.specs.Places.{instruction_at}
+use Rattle.om_foot.specs.declared.footprint.Access.{Access}
+use Rattle.om_foot.specs.declared.footprint.Mode.{Mode}
+use Rattle.om_foot.specs.declared.footprint.Mode.TheVariants as mode
+use Rattle.om_foot.specs.declared.object.Obj as objects
+use Rattle.om_foot.specs.declared.object.Obj.TheVariants as obj
+use Rattle.om_foot.specs.Footprint.{modes_conflict}
+use Rattle.om_state.specs.declared.control.Control as controls
+use Rattle.om_state.specs.declared.control.Control.TheVariants.{Running}
+use Rattle.om_state.specs.declared.step.Choice.{Choice}
+use Rattle.om_state.specs.declared.step.Choice.TheVariants.{Next, Start}
+use Rattle.om_state.specs.declared.step.Label.{Label}
+use Rattle.om_state.specs.Rules.{Rules, step_at, next_state}
+use Rattle.om_state.specs.State.{State}
+use Rattle.om_state.specs.Values.{holder_in}
+use Rattle.om_task.specs.Rules.{rules_of, line_in}
+use Rattle.lab_explore_closed.specs.declared.found.AccessKind.{AccessKind}
+use Rattle.lab_explore_closed.specs.declared.found.AccessKind.TheVariants.{Reads, Writes, Ends}
+use Rattle.lab_explore_closed.specs.declared.found.Pair.{Pair}
+use Rattle.lab_explore_closed.specs.declared.found.Place.{Place}
+use Rattle.lab_explore_closed.specs.declared.found.Racer.{Racer}
+use Rattle.lab_explore_closed.specs.Endings.{control_at}
+
+-- the cells of variables
+abbrev pub is_data : objects.Obj → Bool
+is_data (obj.Cell task frame slot index) = true
+is_data (obj.Global variable index) = true
+is_data _ = false
+
+-- a step can be made at a state, and has this access
+pub record Accesses (r : Rules) (s : State) (l : Label) (a : Access) : Type 0 where
+  pub possible : is_some (next_state r s l) ≡ true
+  pub touches : Contains (step_at r s l).footprint a
+
+-- the instruction that a control carries out next
+abbrev pub instruction_in : Raw → controls.Control → Option Instr
+instruction_in program (Running stack) = instruction_at program stack.top.frame.body stack.top.frame.next
+instruction_in program _ = None
+
+-- the instruction that a step carries out: none where it begins a task
+abbrev pub instruction_of : Raw → controls.Control → Choice → Option Instr
+instruction_of program control Next = instruction_in program control
+instruction_of program control (Start task) = None
+
+-- OpenMP 5.2, 15.8.4: an update of `atomic`
+abbrev pub is_update : Option Instr → Bool
+is_update (Some (instr.Atomic operator side place)) = true
+is_update (Some (instr.AtomicElement operator side place)) = true
+is_update _ = false
+
+-- OpenMP 5.2, 5.5: a reduction's update of the original variable. It is atomic with others of its kind alone
+abbrev pub is_reduction : Option Instr → Bool
+is_reduction (Some (instr.Reduce reduction copy place)) = true
+is_reduction _ = false
+
+-- two instructions whose accesses of one variable are ordered by being atomic
+abbrev pub are_atomic_together : Option Instr → Option Instr → Bool
+are_atomic_together a b = (is_update a && is_update b) || (is_reduction a && is_reduction b)
+
+-- two workers stand before steps that can both be made. They access one cell or global, one of them to write it, and
+-- are not atomic together (OpenMP 5.2, 1.4.1; C17 5.1.2.4p35)
+pub record IsRace (program : Raw) (workers : ℕ) (s : State) (a b : Label) (x y : Access) : Type 0 where
+  pub others : a.worker ≢ b.worker
+  pub first : Accesses (rules_of program workers) s a x
+  pub second : Accesses (rules_of program workers) s b y
+  pub same : x.object ≡ y.object
+  pub variable : is_data x.object ≡ true
+  pub conflict : modes_conflict x.mode y.mode ≡ true
+  pub plain : are_atomic_together (instruction_of program (control_at s a.worker) a.choice)
+      (instruction_of program (control_at s b.worker) b.choice) ≡ false
+
+-- C17 6.2.4: an instruction that ends the lives of variables, or makes one unset where it is declared
+abbrev pub ends_lives : Option Instr → Bool
+ends_lives (Some (instr.Clear slot)) = true
+ends_lives (Some instr.Return) = true
+ends_lives (Some instr.ReturnNothing) = true
+ends_lives (Some instr.Leave) = true
+ends_lives (Some instr.TaskEnd) = true
+ends_lives _ = false
+
+-- how an instruction accesses a variable, by the mode
+abbrev pub kind_of : Option Instr → Mode → AccessKind
+kind_of i mode.Write = cond (ends_lives i) Ends Writes
+kind_of i _ = Reads
+
+abbrev pub kind_number : AccessKind → ℕ
+kind_number Reads = 0
+kind_number Writes = 1
+kind_number Ends = 2
+
+-- where a worker stands before a step's access: the line of its next instruction, and the kind of the access
+abbrev pub place_at : Raw → State → Label → Access → Place
+place_at program s l a = record {
+  line = line_in program (control_at s l.worker);
+  kind = kind_of (instruction_of program (control_at s l.worker) l.choice) a.mode;
+}
+
+-- a place is behind another one: its line is greater, or of one line its kind is
+abbrev pub is_behind : Place → Place → Bool
+is_behind p q = nat_lt q.line p.line || (nat_eq q.line p.line && nat_lt (kind_number q.kind) (kind_number p.kind))
+
+-- two places, so ordered that a pair and its mirror are one
+abbrev pub pair_of : Place → Place → objects.Obj → Pair
+pair_of p q object = cond (is_behind p q) (record { first = q; second = p; object = object })
+    (record { first = p; second = q; object = object })
+
+-- what is told of a race: both lines, how each accesses it, and the object
+abbrev pub pair_at : Raw → State → Label → Label → Access → Access → Pair
+pair_at program s a b x y = pair_of (place_at program s a x) (place_at program s b y) x.object
+
+-- whether a worker holds a lock
+abbrev pub is_holder : Option ℕ → ℕ → Bool
+is_holder None worker = false
+is_holder (Some holder) worker = nat_eq holder worker
+
+-- the locks among the first so many that a worker holds, ascending
+abbrev pub locks_below : State → ℕ → ℕ → List ℕ
+locks_below s worker zero = []
+locks_below s worker (suc lock) =
+    locks_below s worker lock ++ cond (is_holder (holder_in (s (obj.Lock lock))) worker) (lock ∷ []) []
+
+-- how many locks a program has, each of which has a number of 32 bits
+abbrev pub lock_count : Raw → ℕ
+lock_count program = if nat_lt (length program.locks) 4294967295 then length program.locks else 4294967295
+
+-- who stands before a step's access, and what it holds there
+abbrev pub racer_at : Raw → State → Label → Racer
+racer_at program s l = record { worker = l.worker; locks = locks_below s l.worker (lock_count program) }

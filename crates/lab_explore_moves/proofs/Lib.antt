@@ -1,0 +1,4 @@
+pub mod LetterLemmas
+pub mod PossibleLemmas
+pub mod LockLemmas
+pub mod EndingLemmas

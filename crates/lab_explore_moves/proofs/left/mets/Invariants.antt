@@ -1,0 +1,7 @@
+use Rattle.std.proofs.Common.{◌≡◌}
+use Rattle.om_undo.specs.Machines.{state_in}
+use Rattle.lab_explore_closed.specs.Endings.{mets_at}
+use Rattle.lab_explore_moves.proofs.left.mets.Given as goal
+
+abbrev pub invariant-loop-worker : goal.invariant-loop-worker
+invariant-loop-worker l = l.all.items ≡ mets_at l.machine.program (state_in l.machine) l.worker

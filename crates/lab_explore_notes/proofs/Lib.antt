@@ -1,0 +1,3 @@
+pub mod SameLemmas
+pub mod NoteLemmas
+pub mod RaceLemmas

@@ -1,0 +1,95 @@
+//! What an instruction does to a variable that it accesses.
+
+ghost use Rattle.std.specs.Prelude.{◌≡◌};
+ghost use Rattle.lab_explore_closed.specs.Races.{is_data, is_update, is_reduction, are_atomic_together, ends_lives, kind_of, is_behind};
+
+use lab_explore_closed::{AccessKind, Place};
+use om_code::Instr;
+use om_foot::{Mode, Obj};
+
+/// Whether an object is a cell of a variable.
+pub(crate) fn is_data(object: &Obj) -> bool
+    ensures { result ≡ is_data object.now }
+{
+    match object {
+        Obj::Cell { .. } => true,
+        Obj::Global { .. } => true,
+        Obj::Control(_) => false,
+        Obj::Task(_) => false,
+        Obj::Kids(_) => false,
+        Obj::Pending { .. } => false,
+        Obj::Arrived { .. } => false,
+        Obj::Work { .. } => false,
+        Obj::Lock(_) => false,
+        Obj::Group(_) => false,
+        Obj::Output => false,
+        Obj::Events(_) => false,
+    }
+}
+
+// Whether an instruction is an update of `atomic`.
+fn is_update(instruction: Option<Instr>) -> bool
+    ensures { result ≡ is_update instruction }
+{
+    matches!(
+        instruction,
+        Some(Instr::Atomic { .. }) | Some(Instr::AtomicElement { .. })
+    )
+}
+
+// Whether an instruction is a reduction's update of the original variable.
+fn is_reduction(instruction: Option<Instr>) -> bool
+    ensures { result ≡ is_reduction instruction }
+{
+    matches!(instruction, Some(Instr::Reduce { .. }))
+}
+
+/// Whether accesses of one variable by two instructions are ordered by being atomic.
+pub(crate) fn are_atomic_together(first: Option<Instr>, second: Option<Instr>) -> bool
+    ensures { result ≡ are_atomic_together first second }
+{
+    (is_update(first) && is_update(second)) || (is_reduction(first) && is_reduction(second))
+}
+
+// Whether an instruction ends the lives of variables, or makes one unset.
+fn ends_lives(instruction: Option<Instr>) -> bool
+    ensures { result ≡ ends_lives instruction }
+{
+    matches!(
+        instruction,
+        Some(Instr::Clear(_))
+            | Some(Instr::Return)
+            | Some(Instr::ReturnNothing)
+            | Some(Instr::Leave)
+            | Some(Instr::TaskEnd)
+    )
+}
+
+/// How an instruction accesses a variable that it touches in a mode.
+pub(crate) fn kind_of(instruction: Option<Instr>, mode: Mode) -> AccessKind
+    ensures { result ≡ kind_of instruction mode }
+{
+    match mode {
+        Mode::Write => write_of(instruction),
+        Mode::Read => AccessKind::Reads,
+        Mode::Add => AccessKind::Reads,
+    }
+}
+
+fn write_of(instruction: Option<Instr>) -> AccessKind
+    ensures { result ≡ kind_of instruction Mode.Write }
+{
+    if ends_lives(instruction) {
+        AccessKind::Ends
+    } else {
+        AccessKind::Writes
+    }
+}
+
+/// Whether a place is behind another one in a pair.
+pub(crate) fn is_behind(place: &Place, other: &Place) -> bool
+    ensures { result ≡ is_behind place.now other.now }
+{
+    other.line < place.line
+        || (place.line == other.line && other.kind.number() < place.kind.number())
+}

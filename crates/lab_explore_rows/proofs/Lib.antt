@@ -1,0 +1,4 @@
+pub mod WordTableLemmas
+pub mod CutLemmas
+pub mod RowLemmas
+pub mod TableLemmas

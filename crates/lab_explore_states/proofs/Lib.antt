@@ -1,0 +1,3 @@
+pub mod FrameLemmas
+pub mod SetLemmas
+pub mod TouchedLemmas

@@ -1,0 +1,3 @@
+pub mod Touched
+pub mod Standings
+pub mod Sets

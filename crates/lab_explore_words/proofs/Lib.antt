@@ -1,0 +1,4 @@
+mod NumbersApart
+mod ControlsApart
+mod ValuesApart
+mod ObjectsApart

@@ -1,0 +1,8 @@
+use Rattle.std.proofs.Common.{arith}
+use Rattle.std.proofs.lemmas.Grind.{common_steps}
+use Rattle.lab_explore_words.specs.Words.{frame_words}
+use Rattle.lab_explore_words.proofs.control.push_frame.Goals as goal
+
+pub returns : goal.returns
+unfolding frame_words
+returns c = grind (arith, common_steps)

@@ -1,0 +1,8 @@
+use Rattle.std.proofs.Common.{arith}
+use Rattle.std.proofs.lemmas.Grind.{common_steps}
+use Rattle.lab_explore_words.specs.Words.{share_words}
+use Rattle.lab_explore_words.proofs.control.push_share.Goals as goal
+
+pub returns : goal.returns
+unfolding share_words
+returns c = grind (arith, common_steps)

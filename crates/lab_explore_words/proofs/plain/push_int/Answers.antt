@@ -1,0 +1,8 @@
+use Rattle.std.proofs.Common.{arith}
+use Rattle.std.proofs.lemmas.Grind.{common_steps}
+use Rattle.lab_explore_words.specs.Lists.{int_words}
+use Rattle.lab_explore_words.proofs.plain.push_int.Goals as goal
+
+pub returns : goal.returns
+unfolding int_words
+returns c = grind (arith, common_steps)

@@ -1,0 +1,5 @@
+pub mod Lists
+pub mod Words
+pub mod Values
+pub mod Objects
+pub mod Laws
