@@ -7,7 +7,7 @@
 //! Any other section is a session of several workers.
 //!
 //! - `written` reads sources as cases have them. `stage` has the stages, `beginnings` the beginnings of a
-//!   source, and `sessions` runs the sessions. `judge` goes through all sections.
+//!   source, and `sessions` runs the sessions. `verdicts` goes through all sections.
 //! - Where the last line is `== checks`, `checks` then asks what no text says: `books`, `ends` and
 //!   `free_tasks` ask it; `memory` has the streams of `ends`. `call_laws` calls the laws of the front end and
 //!   of scripts.
@@ -18,10 +18,10 @@ mod books;
 mod checks;
 mod ends;
 mod free_tasks;
-mod judge;
 mod memory;
 mod sessions;
 mod stage;
+mod verdicts;
 mod written;
 
-pub use crate::judge::{Report, judge};
+pub use crate::verdicts::{Report, judge};
