@@ -3,7 +3,7 @@
 
 use crate::sections::{Given, cut};
 use crate::subcommands::{Written, number_in, output_of, refused};
-use lab_explore_answer::{Question, Subject, answer};
+use lab_explore_answer::{Question, Subject, answer, status_of};
 use lab_explore_closed::Limits;
 use lab_script::ScriptFault;
 use om_seq::AllocResult;
@@ -38,7 +38,7 @@ pub(crate) fn explored(
     match answer(alloc, given.source, &question)? {
         Some(answer) => {
             let text = facts(alloc, str::from_utf8(&answer.text).unwrap_or("no text"))?;
-            Ok(output_of(alloc, answer.status, text))
+            Ok(output_of(alloc, status_of(answer.finding), text))
         }
         None => Ok(refused(alloc, given, Vec::new(alloc))?),
     }

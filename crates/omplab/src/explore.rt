@@ -3,7 +3,7 @@
 ghost use Rattle.std.specs.Prelude.{◌≤◌};
 
 use crate::subcommands::Host;
-use lab_explore_answer::{Question, answer};
+use lab_explore_answer::{Question, answer, status_of};
 use om_shell::{ShellFault, send};
 use std::io::Write;
 
@@ -27,7 +27,7 @@ pub(crate) fn explore<H, W: Write>(
             if answer.ran_out {
                 return Err(ShellFault::Memory);
             }
-            Ok(answer.status)
+            Ok(status_of(answer.finding))
         }
         None => host.refuse(source),
     }
