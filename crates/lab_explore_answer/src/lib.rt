@@ -1,0 +1,20 @@
+//! omplab explore, omplab races: what is answered for a source: all ends, faults and races in words, or a script.
+//!
+//! - `answer` explores the program of a source, and tells what was found, or writes the steps that lead to one thing.
+//!   Contracts say which exploration is told, and whether it is bad. What words tell it no clause says.
+//! - `asked` has what is asked for, and `finding` says whether what was found is bad.
+//! - `report` puts the lines together. `words` has ends and faults, and `racing` races. `blocks` tells a path as
+//!   blocks of steps, and `script` as commands.
+#![tactic(auto)]
+
+mod asked;
+mod blocks;
+mod explored;
+mod finding;
+mod racing;
+mod report;
+mod script;
+mod words;
+
+pub use asked::{Answer, Finding, Question, Subject};
+pub use explored::answer;
