@@ -4,10 +4,9 @@ use Rattle.lab_port_tokens.specs.declared.piece.Piece.{Piece}
 use Rattle.lab_port_tokens.specs.Pieces.{pieces_of}
 use Rattle.lab_port.specs.declared.ported.Change.{Change}
 use Rattle.lab_port.specs.declared.ported.Step.{Step}
-use Rattle.lab_port.specs.declared.ported.Ported.{Ported}
 use Rattle.lab_port.specs.declared.stage.Stage.{Stage}
 use Rattle.lab_port.specs.Written.{with_changes, line_feeds, Stand}
-use Rattle.lab_port.specs.Portings.{stage_changes, changes_in, IsStep, Ports}
+use Rattle.lab_port.specs.Portings.{stage_changes, changes_in, IsStep}
 use Rattle.lab_port.proofs.Feeds.{lines_from}
 use Rattle.lab_port.proofs.Stands.{changes_stand}
 
@@ -43,8 +42,3 @@ whole_step stage text step seen changes apart sees made =
 pub step_on : (stage : Stage) (text seen : List ℕ) (step : Step) → seen ≡ text → IsStep stage seen step
     → IsStep stage text step
 step_on stage text seen step same is = subst (λ t. IsStep stage t step) same is
-
--- all line feeds stay
-pub whole_lines : (source : List ℕ) (ported : Ported) → Ports source ported
-    → line_feeds ported.rules.text.items ≡ line_feeds source
-whole_lines source ported ports = ports.rules.lines ∙ ports.lists.lines ∙ ports.names.lines

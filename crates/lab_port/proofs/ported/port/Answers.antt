@@ -1,7 +1,7 @@
 use Rattle.std.proofs.Common.{ap, ◌∙◌}
 use Rattle.lab_port.specs.declared.stage.Stage.TheVariants as stages
 use Rattle.lab_port.specs.Portings.{refusals_of}
-use Rattle.lab_port.proofs.Wholes.{step_on, whole_lines}
+use Rattle.lab_port.proofs.Wholes.{step_on}
 use Rattle.lab_port.proofs.ported.port.Goals as goal
 
 pub returns-clause-ports : goal.returns-clause-ports

@@ -6,8 +6,8 @@ use Rattle.lab_port.proofs.ported.step_of.Goals as goal
 pub text_of-requires : goal.text_of-requires
 text_of-requires c = subst (Stand c.args.text.now 0) (sym c.deref.ensures.value) c.in_ok-changes.ensures.apart
 
-pub returns-clause : goal.returns-clause
-returns-clause c =
+pub returns : goal.returns
+returns c =
     whole_step c.args.stage c.args.text.now (record { changes = c.in_ok-changes.changes; text = c.in_ok-made.made })
     c.deref.result.now c.in_ok-changes.ensures.changes c.in_ok-changes.ensures.apart c.deref.ensures.value
     c.in_ok-made.ensures.text
