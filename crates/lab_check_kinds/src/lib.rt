@@ -1,7 +1,10 @@
-//! What `check` says of a source: the report on it, and all kinds of places that are not accepted.
+//! omplab check: the report on a source, and behind a refusal all kinds of places of it that are not accepted.
+//!
+//! `checked` joins the report of lab_check and the kinds of lab_port_kinds.
+#![tactic(auto)]
 
 ghost use Rattle.std.specs.Prelude.{◌≡◌, ◌++◌, IfOk};
-ghost use Rattle.lab_port_answer.specs.Checks.{Checks, TellsKinds};
+ghost use Rattle.lab_check_kinds.specs.Checks.{Checks, TellsKinds};
 
 use lab_check::{Report, report};
 use lab_port::port;
@@ -13,7 +16,7 @@ use std::alloc::Global;
 ///
 /// Behind the report on a refused source stands a line for each kind of place of it where a rule of the port applies or
 /// that has no form. The only error is out of memory.
-pub fn check(alloc: Global, file: &str, source: &[u8], workers: u8) -> AllocResult<Report>
+pub fn checked(alloc: Global, file: &str, source: &[u8], workers: u8) -> AllocResult<Report>
     ensures { IfOk result (Checks file.now source.now) }
 {
     let before = report(alloc, file, source, workers)?;
