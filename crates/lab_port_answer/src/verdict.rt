@@ -54,8 +54,9 @@ fn changed(alloc: Global, file: &str, source: &[u8], workers: u8) -> AllocResult
     let list = list_of(alloc, file, source, &ported, &after)?;
     let status = after.status;
     drop(after);
+    let rules = ported.rules;
     Ok(Answer {
-        text: ported.rules.text,
+        text: rules.text,
         list,
         warnings,
         status,
