@@ -4,7 +4,6 @@ use Rattle.om_code.specs.declared.raw.Raw.{Raw}
 use Rattle.om_lexer.specs.declared.fault.SourceFault.{SourceFault}
 use Rattle.om_frontend.specs.Verdict.{IsVerdict}
 use Rattle.lab_check.specs.Reports.{Reports}
-use Rattle.lab_port.specs.declared.ported.Change.{Change}
 use Rattle.lab_port.specs.declared.ported.Ported.{Ported}
 use Rattle.lab_port.specs.Portings.{Ports}
 use Rattle.lab_port.specs.Tallies.{change_count, warning_count}

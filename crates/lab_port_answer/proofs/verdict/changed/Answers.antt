@@ -9,8 +9,8 @@ returns c = record {
   text = search rules;
   report = c.in_ok-after.after.text.items;
   checked = subst (
-    λ text. Reports c.args.file.now text c.in_ok-after.after.text.items c.in_ok-after.after.status
-  ) c.deref.ensures.value c.in_ok-after.ensures;
+      λ text. Reports c.args.file.now text c.in_ok-after.after.text.items c.in_ok-after.after.status
+      ) c.deref.ensures.value c.in_ok-after.ensures;
   listed = c.in_ok-list.ensures;
   warned = search rules;
 }
