@@ -78,6 +78,11 @@ help: leave it out; a variable of a function becomes a global
 
 THREE = "int main(void)\n{\n#pragma omp parallel num_threads(3)\n    ;\n}\n"
 STATIC = "int main(void)\n{\n\tstatic int x;\n}\n"
+WORSE = STATIC.replace("x;\n", "x;\n\tlong y;\n\tlong z;\n\tint *p;\n")
+KINDS = LEFT_OUT + """by the words alone these places are not accepted:
+  2 places, in line 4 5: narrow: omplab port does this
+  1 place, in line 6: a pointer has no form here
+"""
 ON_A_LINE = "int f(int y) { return y; } int main(void) { int x; x = 1; }\n"
 FAULTY = "int main(void)\n{\n    int x;\n    return x;\n}\n"
 ENDLESS = "int main(void){ while (1) ; }"
@@ -118,6 +123,7 @@ ROWS = [
     ("a source is accepted", ["check"], RACE, "", 0, "a.c: accepted\n", ""),
     ("a team is smaller than asked for", ["check"], THREE, "", 0, "a.c: accepted\na.c:3:22: note: with --threads 2 this team has at most 2; give omplab and ompback --threads 3\n", ""),
     ("a source is refused", ["check"], STATIC, "", 1, LEFT_OUT, ""),
+    ("all kinds of places are told", ["check"], WORSE, "", 1, KINDS, ""),
     ("an accepted source is ported as it is", ["port", "--strict"], RACE, "", 0, RACE, "0 changes, 0 warnings; the text is accepted\n"),
     ("a source is ported", ["port"], WIDER, "", 0, PORTED, CHANGES),
     ("a text with a warning is held back", ["port", "--strict"], WIDER, "", 1, "", CHANGES),

@@ -700,8 +700,20 @@ def blanks(owed, old):
     return bytes(out)
 
 
-def port(src):
-    """The text that a source becomes, its changes, and its tokens without a form."""
+def staged(src, edits):
+    """A text with these edits of its pieces, and its changes."""
+    ps, changes, out, at = (cut(src), [], bytearray(), 0)
+    for i, taken, rule, nw in edits(ps):
+        old = b''.join((q[2] for q in ps[i:i + 1 + taken]))
+        nw = flat(nw)
+        changes.append((ps[i][1], rule, old, nw))
+        out += src[at:ps[i][1]] + nw + blanks(len(nw), old)
+        at = ps[i][1] + len(old)
+    return (bytes(out + src[at:]), changes)
+
+
+def ruled(src):
+    """The text that a text becomes by the rules of the last stage, its changes, and its tokens without a form."""
     ps = cut(src)
     ms = marks([cls(p) for p in ps])
     changes, lacks, out, at = ([], [], bytearray(), 0)
@@ -720,6 +732,10 @@ def port(src):
 
 
 WARNINGS = {
+    'EnumerationType': 'wrong value',
+    'EnumerationTypedef': 'wrong value',
+    'List': 'differs',
+    'Fill': 'differs',
     'Volatile': 'hides races',
     'Wait': 'hides races',
     'UnsignedSuffix': 'wrong value',
@@ -753,6 +769,15 @@ def warning(rule):
 
 
 NAMES = {
+    'Macro': 'macro',
+    'Use': 'name',
+    'Enumeration': 'enum',
+    'EnumerationType': 'enum',
+    'EnumerationTypedef': 'enum',
+    'Typedef': 'typedef',
+    'List': 'list',
+    'FileList': 'list',
+    'Fill': 'list',
     'Include': 'include',
     'Storage': 'storage',
     'Attribute': 'storage',
@@ -785,6 +810,10 @@ NAMES = {
 }
 FAULT_WORDS = 'a result that does not fit is the fault F1'
 WORDS_OF = {
+    'EnumerationType': 'a negative value differs',
+    'EnumerationTypedef': 'a negative value differs',
+    'List': 'the stores are steps',
+    'Fill': 'the stores are steps',
     'Volatile': 'no read or write is kept or added by it here',
     'Wait': 'no time passes, and the schedule decides',
     'UnsignedSuffix': 'an operand that is negative or above 2147483647 differs',
@@ -870,9 +899,13 @@ def listing(source, changes, lacks):
 
 def main():
     """Ports the source on the standard input."""
+    from port_stages import list_edits, name_edits
     source = sys.stdin.buffer.read()
-    text, changes, lacks = port(source)
-    sys.stdout.buffer.write(text + b'====\n' + listing(source, changes, lacks))
+    named, names = staged(source, name_edits)
+    listed, lists = staged(named, list_edits)
+    text, changes, lacks = ruled(listed)
+    told = listing(source, names, []) + listing(named, lists, []) + listing(listed, changes, lacks)
+    sys.stdout.buffer.write(text + b'====\n' + told)
 
 
 if __name__ == '__main__':

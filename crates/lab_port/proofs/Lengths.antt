@@ -6,23 +6,39 @@ use Rattle.lab_port_words.specs.declared.class.Class.{Class}
 use Rattle.lab_port_words.specs.Tables.{class_of, classes_of}
 use Rattle.lab_port_context.specs.declared.facts.Facts.{Facts}
 use Rattle.lab_port_context.specs.Facts.{facts_of}
-use Rattle.lab_port_rules.specs.declared.mark.Mark.{Mark}
 use Rattle.lab_port_rules.specs.declared.mark.Place.{Place}
-use Rattle.lab_port_rules.specs.Marks.{first_place, mark_here, place_behind, marks_from, marks_of}
+use Rattle.lab_port_rules.specs.declared.rule.Meaning.{Meaning}
+use Rattle.lab_port_rules.specs.Marks.{first_place, mark_here, place_behind, marks_from}
+use Rattle.lab_port_names.specs.declared.uses.Spot.{Spot as NameSpot}
+use Rattle.lab_port_names.specs.Uses.{names_here, first_spot as first_name, mark_here as name_here, spot_behind as name_behind, marks_from as named_from}
+use Rattle.lab_port_lists.specs.declared.place.Spot.{Spot as ListSpot}
+use Rattle.lab_port_lists.specs.Places.{names_with, first_spot as first_list, mark_here as list_here, spot_behind as list_behind, marks_from as listed_from}
+use Rattle.lab_port.specs.declared.stage.Stage.{Stage}
+use Rattle.lab_port.specs.declared.stage.Stage.TheVariants as stages
+use Rattle.lab_port.specs.Portings.{stage_marks}
 
 marks_length : (facts : Facts) (place : Place) (all : List Class) → length (marks_from facts place all) ≡ length all
 marks_length facts place [] = refl
 marks_length facts place (c ∷ rest) =
     ap suc (marks_length facts (place_behind place (mark_here facts place c rest) c) rest)
 
-pub marks_fit : (pieces : List Piece) → length (marks_of (classes_of pieces)) ≡ length pieces
-marks_fit pieces = marks_length (facts_of (classes_of pieces)) first_place (classes_of pieces) ∙ length-map pieces class_of
+names_length : (names : List Meaning) (spot : NameSpot) (pieces : List Piece)
+    → length (named_from names spot pieces) ≡ length pieces
+names_length names spot [] = refl
+names_length names spot (piece ∷ rest) =
+    ap suc (names_length (names_here names spot piece rest) (name_behind spot (name_here names spot piece rest) piece) rest)
 
--- the marks that are made of the classes of some pieces
-pub marks_sized : (pieces : List Piece) (classes shown : List Class) (marks : List Mark)
-    → classes ≡ classes_of pieces
-    → shown ≡ classes
-    → marks ≡ marks_of shown
-    → length marks ≡ length pieces
-marks_sized pieces classes shown marks have see made =
-    ap length made ∙ ap (λ l. length (marks_of l)) (see ∙ have) ∙ marks_fit pieces
+lists_length : (names : List Meaning) (spot : ListSpot) (pieces : List Piece)
+    → length (listed_from names spot pieces) ≡ length pieces
+lists_length names spot [] = refl
+lists_length names spot (piece ∷ rest) =
+    ap suc (
+    lists_length (names_with names (list_here names spot piece rest) piece rest)
+    (list_behind spot (list_here names spot piece rest) piece) rest
+    )
+
+pub stage_fit : (stage : Stage) (pieces : List Piece) → length (stage_marks stage pieces) ≡ length pieces
+stage_fit stages.Names pieces = names_length [] (first_name pieces) pieces
+stage_fit stages.Lists pieces = lists_length [] (first_list pieces) pieces
+stage_fit stages.Rules pieces =
+    marks_length (facts_of (classes_of pieces)) first_place (classes_of pieces) ∙ length-map pieces class_of

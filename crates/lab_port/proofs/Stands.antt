@@ -8,15 +8,16 @@ use Rattle.lab_port_tokens.specs.declared.scan.Next.TheVariants.{Stops, Ends, Go
 use Rattle.lab_port_tokens.specs.Scans.{scan_after, size_from, step}
 use Rattle.lab_port_tokens.specs.declared.piece.Piece.{Piece}
 use Rattle.lab_port_tokens.specs.Pieces.{size_of, pieces_behind, pieces_of, bytes_of}
-use Rattle.lab_port_words.specs.Tables.{classes_of}
 use Rattle.lab_port_rules.specs.declared.rule.Rule.{Rule}
+use Rattle.lab_port_rules.specs.declared.rule.Meaning.{Meaning}
+use Rattle.lab_port.specs.declared.stage.Stage.{Stage}
 use Rattle.lab_port_rules.specs.declared.mark.Mark.{Mark}
 use Rattle.lab_port_rules.specs.declared.mark.Mark.TheVariants as marks
 use Rattle.lab_port.specs.declared.ported.Change.{Change}
 use Rattle.lab_port.specs.Texts.{flat_byte, new_text, flat_text}
 use Rattle.lab_port.specs.Written.{part, end_of, line_feeds, Stands, Stand}
-use Rattle.lab_port.specs.Portings.{changes_at, changes_from, source_marks, changes_of}
-use Rattle.lab_port.proofs.Takes.{Fit, all_take}
+use Rattle.lab_port.specs.Portings.{changes_at, changes_from, stage_marks, stage_names, changes_in}
+use Rattle.lab_port.proofs.Takes.{Fit, stage_takes}
 
 -- each piece stands where the one before it ends
 abbrev Placed : ℕ → List Piece → Type 0
@@ -74,12 +75,12 @@ flat_feeds [] = refl
 flat_feeds (b ∷ rest) = grind (arith, flat_feeds rest)
 
 -- the change that a rule makes of a piece and those that it takes
-abbrev change_by : Rule → Piece → List Piece → Change
-change_by rule piece taken = record {
+abbrev change_by : List Meaning → Rule → Piece → List Piece → Change
+change_by names rule piece taken = record {
   at = piece.at;
   rule = rule;
   old = bytes_of (piece ∷ taken);
-  new = flat_text rule piece.text taken;
+  new = flat_text names rule piece.text taken;
 }
 
 -- the pieces from one on, those that its rule takes first
@@ -91,13 +92,13 @@ parted piece rest taken =
     ∙ sym (append_assoc piece.text (bytes_of (take taken rest)) (bytes_of (drop taken rest)))
 
 -- such a change stands at its piece
-stands_there : (source : List ℕ) (at taken : ℕ) (rule : Rule) (piece : Piece) (rest : List Piece)
+stands_there : (names : List Meaning) (source : List ℕ) (at taken : ℕ) (rule : Rule) (piece : Piece) (rest : List Piece)
     → piece.at ≡ at
     → drop at source ≡ bytes_of (piece ∷ rest)
     → at ≤ length source
-    → Stands source at (change_by rule piece (take taken rest))
-stands_there source at taken rule piece rest here bytes below =
-    let change = change_by rule piece (take taken rest) in
+    → Stands source at (change_by names rule piece (take taken rest))
+stands_there names source at taken rule piece rest here bytes below =
+    let change = change_by names rule piece (take taken rest) in
     let old = bytes_of (piece ∷ take taken rest) in
     let more = bytes_of (drop taken rest) in
     let tail : drop at source ≡ old ++ more = bytes ∙ parted piece rest taken in
@@ -111,7 +112,7 @@ stands_there source at taken rule piece rest here bytes below =
     ∙ ap (λ k. take (length old) (drop k source)) here
     ∙ ap (take (length old)) tail
     ∙ take-append_seam old more in
-    (after, inside, same, flat_feeds (new_text rule piece.text (take taken rest)))
+    (after, inside, same, flat_feeds (new_text names rule piece.text (take taken rest)))
 
 -- behind a piece the bytes are those of the pieces behind it
 next_bytes : (source : List ℕ) (at : ℕ) (piece : Piece) (rest : List Piece)
@@ -132,49 +133,49 @@ next_inside source at piece rest bytes below =
     omega (arith, size, below)
 
 -- the changes of some pieces, of which the first ones are taken by a rule before
-stand_on : (source : List ℕ) (at taken : ℕ) (pieces : List Piece) (some : List Mark)
+stand_on : (names : List Meaning) (source : List ℕ) (at taken : ℕ) (pieces : List Piece) (some : List Mark)
     → Placed at pieces
     → drop at source ≡ bytes_of pieces
     → at ≤ length source
     → Fit taken some
-    → Stand source (at + length (bytes_of (take taken pieces))) (changes_from pieces some)
-stand_on source at taken [] some placed bytes below fit = tt
-stand_on source at taken (piece ∷ rest) [] placed bytes below fit = tt
-stand_on source at zero (piece ∷ rest) (marks.Kept ∷ more) (here, placed) bytes below fit =
-    earlier source (at + 0) (at + length piece.text + 0) (changes_from rest more) (omega arith)
-    (stand_on source (at + length piece.text) 0 rest more placed (next_bytes source at piece rest bytes)
+    → Stand source (at + length (bytes_of (take taken pieces))) (changes_from names pieces some)
+stand_on names source at taken [] some placed bytes below fit = tt
+stand_on names source at taken (piece ∷ rest) [] placed bytes below fit = tt
+stand_on names source at zero (piece ∷ rest) (marks.Kept ∷ more) (here, placed) bytes below fit =
+    earlier source (at + 0) (at + length piece.text + 0) (changes_from names rest more) (omega arith)
+    (stand_on names source (at + length piece.text) 0 rest more placed (next_bytes source at piece rest bytes)
     (next_inside source at piece rest bytes below) fit)
-stand_on source at zero (piece ∷ rest) (marks.Taken ∷ more) (here, placed) bytes below fit =
-    earlier source (at + 0) (at + length piece.text + 0) (changes_from rest more) (omega arith)
-    (stand_on source (at + length piece.text) 0 rest more placed (next_bytes source at piece rest bytes)
+stand_on names source at zero (piece ∷ rest) (marks.Taken ∷ more) (here, placed) bytes below fit =
+    earlier source (at + 0) (at + length piece.text + 0) (changes_from names rest more) (omega arith)
+    (stand_on names source (at + length piece.text) 0 rest more placed (next_bytes source at piece rest bytes)
     (next_inside source at piece rest bytes below) fit)
-stand_on source at zero (piece ∷ rest) (marks.Lacking reason ∷ more) (here, placed) bytes below fit =
-    earlier source (at + 0) (at + length piece.text + 0) (changes_from rest more) (omega arith)
-    (stand_on source (at + length piece.text) 0 rest more placed (next_bytes source at piece rest bytes)
+stand_on names source at zero (piece ∷ rest) (marks.Lacking reason ∷ more) (here, placed) bytes below fit =
+    earlier source (at + 0) (at + length piece.text + 0) (changes_from names rest more) (omega arith)
+    (stand_on names source (at + length piece.text) 0 rest more placed (next_bytes source at piece rest bytes)
     (next_inside source at piece rest bytes below) fit)
-stand_on source at zero (piece ∷ rest) (marks.Changed rule taken ∷ more) (here, placed) bytes below fit =
-    let stand = stand_on source (at + length piece.text) taken rest more placed (next_bytes source at piece rest bytes)
+stand_on names source at zero (piece ∷ rest) (marks.Changed rule taken ∷ more) (here, placed) bytes below fit =
+    let stand = stand_on names source (at + length piece.text) taken rest more placed (next_bytes source at piece rest bytes)
     (next_inside source at piece rest bytes below) fit in
     let end : at + length piece.text + length (bytes_of (take taken rest))
-    ≡ end_of (change_by rule piece (take taken rest)) =
+    ≡ end_of (change_by names rule piece (take taken rest)) =
     omega (arith, here, length-append piece.text (bytes_of (take taken rest))) in
     let first : at + 0 ≤ piece.at = omega (arith, here) in
-    let there = stands_there source at taken rule piece rest here bytes below in
-    ((first, there.1, there.2, there.3), subst (λ k. Stand source k (changes_from rest more)) end stand)
-stand_on source at (suc taken) (piece ∷ rest) (mark ∷ more) (here, placed) bytes below (is, fit) =
-    let stand = stand_on source (at + length piece.text) taken rest more placed (next_bytes source at piece rest bytes)
+    let there = stands_there names source at taken rule piece rest here bytes below in
+    ((first, there.1, there.2, there.3), subst (λ k. Stand source k (changes_from names rest more)) end stand)
+stand_on names source at (suc taken) (piece ∷ rest) (mark ∷ more) (here, placed) bytes below (is, fit) =
+    let stand = stand_on names source (at + length piece.text) taken rest more placed (next_bytes source at piece rest bytes)
     (next_inside source at piece rest bytes below) fit in
     let end : at + length piece.text + length (bytes_of (take taken rest))
     ≡ at + length (piece.text ++ bytes_of (take taken rest)) =
     omega (arith, length-append piece.text (bytes_of (take taken rest))) in
-    let none : changes_from rest more ≡ changes_at mark piece rest ++ changes_from rest more =
-    ap (λ m. changes_at m piece rest ++ changes_from rest more) (sym is) in
+    let none : changes_from names rest more ≡ changes_at names mark piece rest ++ changes_from names rest more =
+    ap (λ m. changes_at names m piece rest ++ changes_from names rest more) (sym is) in
     subst (Stand source (at + length (piece.text ++ bytes_of (take taken rest)))) none
-    (subst (λ k. Stand source k (changes_from rest more)) end stand)
+    (subst (λ k. Stand source k (changes_from names rest more)) end stand)
 
-pub changes_stand : (source : List ℕ) → Stand source 0 (changes_of source)
-changes_stand source =
-    let pieces = pieces_of source in
-    let below : 0 ≤ length source = omega arith in
-    stand_on source 0 0 pieces (source_marks source) (placed_behind 0 0 source) (sym (bytes_behind 0 0 source)) below
-    (all_take (classes_of pieces))
+pub changes_stand : (stage : Stage) (text : List ℕ) → Stand text 0 (changes_in stage text)
+changes_stand stage text =
+    let pieces = pieces_of text in
+    let below : 0 ≤ length text = omega arith in
+    stand_on (stage_names stage pieces) text 0 0 pieces (stage_marks stage pieces) (placed_behind 0 0 text)
+    (sym (bytes_behind 0 0 text)) below (stage_takes stage pieces)

@@ -3,24 +3,25 @@ use Rattle.std.proofs.Common.{◌≡◌, ℕ, ◌+◌, List, ◌∷◌, ◌++◌
 use Rattle.std.specs.Prelude.{flat_map}
 use Rattle.lab_port_tokens.specs.declared.piece.Piece.{Piece}
 use Rattle.lab_port_rules.specs.declared.mark.Mark.{Mark}
+use Rattle.lab_port_rules.specs.declared.rule.Meaning.{Meaning}
 use Rattle.lab_port.specs.declared.ported.Change.{Change}
 use Rattle.lab_port.specs.declared.ported.Refusal.{Refusal}
 use Rattle.lab_port.specs.Portings.{changes_at, changes_from, refusals_at, refusals_from}
 
-pub changes_on : (pieces : List Piece) (marks : List Mark) (i : ℕ) (piece : Piece) (mark : Mark)
+pub changes_on : (names : List Meaning) (pieces : List Piece) (marks : List Mark) (i : ℕ) (piece : Piece) (mark : Mark)
     (done more total : List Change)
     → drop i pieces ≡ piece ∷ drop (i + 1) pieces
     → drop i marks ≡ mark ∷ drop (i + 1) marks
-    → more ≡ done ++ changes_at mark piece (drop (i + 1) pieces)
-    → done ++ changes_from (drop i pieces) (drop i marks) ≡ total
-    → more ++ changes_from (drop (i + 1) pieces) (drop (i + 1) marks) ≡ total
-changes_on pieces marks i piece mark done more total ps ms pushed read =
+    → more ≡ done ++ changes_at names mark piece (drop (i + 1) pieces)
+    → done ++ changes_from names (drop i pieces) (drop i marks) ≡ total
+    → more ++ changes_from names (drop (i + 1) pieces) (drop (i + 1) marks) ≡ total
+changes_on names pieces marks i piece mark done more total ps ms pushed read =
     let rest = drop (i + 1) pieces in
     let after = drop (i + 1) marks in
-    ap (λ l. l ++ changes_from rest after) pushed
-    ∙ append_assoc done (changes_at mark piece rest) (changes_from rest after)
-    ∙ ap (λ l. done ++ changes_from l (mark ∷ after)) (sym ps)
-    ∙ ap (λ l. done ++ changes_from (drop i pieces) l) (sym ms)
+    ap (λ l. l ++ changes_from names rest after) pushed
+    ∙ append_assoc done (changes_at names mark piece rest) (changes_from names rest after)
+    ∙ ap (λ l. done ++ changes_from names l (mark ∷ after)) (sym ps)
+    ∙ ap (λ l. done ++ changes_from names (drop i pieces) l) (sym ms)
     ∙ read
 
 pub refusals_on : (pieces : List Piece) (marks : List Mark) (i : ℕ) (piece : Piece) (mark : Mark)

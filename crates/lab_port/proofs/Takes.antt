@@ -7,7 +7,17 @@ use Rattle.lab_port_context.specs.Facts.{facts_of}
 use Rattle.lab_port_rules.specs.declared.mark.Mark.{Mark}
 use Rattle.lab_port_rules.specs.declared.mark.Mark.TheVariants as marks
 use Rattle.lab_port_rules.specs.declared.mark.Place.{Place}
-use Rattle.lab_port_rules.specs.Marks.{first_place, mark_at, mark_here, taken_by, taken_after, place_behind, marks_from, marks_of}
+use Rattle.lab_port_rules.specs.declared.rule.Meaning.{Meaning}
+use Rattle.lab_port_rules.specs.Marks.{first_place, mark_at, mark_here, taken_by, taken_after, place_behind, marks_from}
+use Rattle.lab_port_tokens.specs.declared.piece.Piece.{Piece}
+use Rattle.lab_port_words.specs.Tables.{classes_of}
+use Rattle.lab_port_names.specs.declared.uses.Spot.{Spot as NameSpot}
+use Rattle.lab_port_names.specs.Uses.{names_here, found_at, first_spot as first_name, mark_here as name_here, mark_by as name_by, spot_behind as name_behind, marks_from as named_from}
+use Rattle.lab_port_lists.specs.declared.place.Spot.{Spot as ListSpot}
+use Rattle.lab_port_lists.specs.Places.{names_with, given_size, first_spot as first_list, mark_here as list_here, mark_by as list_by, spot_behind as list_behind, marks_from as listed_from}
+use Rattle.lab_port.specs.declared.stage.Stage.{Stage}
+use Rattle.lab_port.specs.declared.stage.Stage.TheVariants as stages
+use Rattle.lab_port.specs.Portings.{stage_marks}
 
 -- so many of these marks are taken by a rule before them
 abbrev pub Fit : ℕ → List Mark → Type 0
@@ -36,5 +46,45 @@ marks_take facts place (c ∷ rest) (suc taken) same =
           (ap (λ k. taken_after k mark) same ∙ ap (λ t. if t then taken_by mark else suc taken - 1) later ∙ left),
     )
 
-pub all_take : (all : List Class) → Fit 0 (marks_of all)
-all_take all = marks_take (facts_of all) first_place all 0 refl
+names_take : (names : List Meaning) (spot : NameSpot) (pieces : List Piece) (taken : ℕ)
+    → spot.taken ≡ taken
+    → Fit taken (named_from names spot pieces)
+names_take names spot [] zero same = tt
+names_take names spot [] (suc taken) same = tt
+names_take names spot (piece ∷ rest) zero same =
+    let mark = name_here names spot piece rest in
+    names_take (names_here names spot piece rest) (name_behind spot mark piece) rest (taken_by mark)
+    (ap (λ k. taken_after k mark) same)
+names_take names spot (piece ∷ rest) (suc taken) same =
+    let mark = name_here names spot piece rest in
+    let later = not_first taken in
+    let left : suc taken - 1 ≡ taken = omega arith in
+    let other = name_by (found_at names spot piece rest) names spot.context piece in (
+      ap (λ k. if k == 0 then other else marks.Taken) same ∙ ap (λ t. if t then other else marks.Taken) later,
+      names_take (names_here names spot piece rest) (name_behind spot mark piece) rest taken
+          (ap (λ k. taken_after k mark) same ∙ ap (λ t. if t then taken_by mark else suc taken - 1) later ∙ left),
+    )
+
+lists_take : (names : List Meaning) (spot : ListSpot) (pieces : List Piece) (taken : ℕ)
+    → spot.taken ≡ taken
+    → Fit taken (listed_from names spot pieces)
+lists_take names spot [] zero same = tt
+lists_take names spot [] (suc taken) same = tt
+lists_take names spot (piece ∷ rest) zero same =
+    let mark = list_here names spot piece rest in
+    lists_take (names_with names mark piece rest) (list_behind spot mark piece) rest (taken_by mark)
+    (ap (λ k. taken_after k mark) same)
+lists_take names spot (piece ∷ rest) (suc taken) same =
+    let mark = list_here names spot piece rest in
+    let later = not_first taken in
+    let left : suc taken - 1 ≡ taken = omega arith in
+    let other = list_by (given_size spot piece rest) names spot piece in (
+      ap (λ k. if k == 0 then other else marks.Taken) same ∙ ap (λ t. if t then other else marks.Taken) later,
+      lists_take (names_with names mark piece rest) (list_behind spot mark piece) rest taken
+          (ap (λ k. taken_after k mark) same ∙ ap (λ t. if t then taken_by mark else suc taken - 1) later ∙ left),
+    )
+
+pub stage_takes : (stage : Stage) (pieces : List Piece) → Fit 0 (stage_marks stage pieces)
+stage_takes stages.Names pieces = names_take [] (first_name pieces) pieces 0 refl
+stage_takes stages.Lists pieces = lists_take [] (first_list pieces) pieces 0 refl
+stage_takes stages.Rules pieces = marks_take (facts_of (classes_of pieces)) first_place (classes_of pieces) 0 refl

@@ -5,3 +5,4 @@ pub mod Portings
 pub mod Warnings
 pub mod Names
 pub mod Listings
+pub mod Tallies

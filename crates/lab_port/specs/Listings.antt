@@ -2,6 +2,7 @@
 use Rattle.std.specs.Prelude.{ℕ, List, [], ◌∷◌, ◌++◌, ◌+◌, codes, decimal, flat_map, map, Option, None, Some}
 use Rattle.lab_port_rules.specs.declared.rule.Rule.{Rule}
 use Rattle.lab_port.specs.declared.ported.Change.{Change}
+use Rattle.lab_port.specs.declared.ported.Ported.{Ported}
 use Rattle.lab_port.specs.declared.ported.Refusal.{Refusal}
 use Rattle.lab_port_words.specs.declared.class.Lack.{Lack}
 use Rattle.lab_port.specs.declared.words.Kind.{Kind}
@@ -67,6 +68,13 @@ abbrev pub refusals_part : List ℕ → List ℕ → List Refusal → List ℕ
 refusals_part file source refusals =
     flat_map (λ refusal. refusal_lines file source (place_in source refusal.at) refusal.lack) refusals
 
--- the lines of the changes, and then those of the tokens without a form
-abbrev pub listing : List ℕ → List ℕ → List Change → List Refusal → List ℕ
-listing file source changes refusals = changes_part file source changes ++ refusals_part file source refusals
+-- the lines of the changes, stage by stage
+abbrev pub change_list : List ℕ → List ℕ → Ported → List ℕ
+change_list file source ported =
+    changes_part file source ported.names.changes.items
+    ++ changes_part file ported.names.text.items ported.lists.changes.items
+    ++ changes_part file ported.lists.text.items ported.rules.changes.items
+
+-- the lines of the tokens without a form
+abbrev pub refusal_list : List ℕ → Ported → List ℕ
+refusal_list file ported = refusals_part file ported.lists.text.items ported.refusals.items

@@ -1,30 +1,37 @@
--- What a source becomes.
-use Rattle.std.specs.Prelude.{ℕ, List, [], ◌∷◌, ◌++◌, take}
+-- What a source becomes: stage by stage, each on the text that the one before it made.
+use Rattle.std.specs.Prelude.{◌≡◌, ℕ, List, [], ◌∷◌, ◌++◌, take}
 use Rattle.lab_port_tokens.specs.declared.piece.Piece.{Piece}
 use Rattle.lab_port_tokens.specs.Pieces.{pieces_of, bytes_of}
 use Rattle.lab_port_words.specs.Tables.{classes_of}
 use Rattle.lab_port_rules.specs.declared.mark.Mark.{Mark}
 use Rattle.lab_port_rules.specs.declared.mark.Mark.TheVariants as marks
+use Rattle.lab_port_rules.specs.declared.rule.Meaning.{Meaning}
 use Rattle.lab_port_rules.specs.Marks.{marks_of}
+use Rattle.lab_port_names.specs.Uses.{name_marks, names_of}
+use Rattle.lab_port_lists.specs.Places.{list_marks, lists_of}
 use Rattle.lab_port.specs.declared.ported.Change.{Change}
 use Rattle.lab_port.specs.declared.ported.Refusal.{Refusal}
+use Rattle.lab_port.specs.declared.stage.Stage.{Stage}
+use Rattle.lab_port.specs.declared.stage.Stage.TheVariants as stages
+use Rattle.lab_port.specs.declared.ported.Step.{Step}
+use Rattle.lab_port.specs.declared.ported.Ported.{Ported}
 use Rattle.lab_port.specs.Texts.{flat_text}
-use Rattle.lab_port.specs.Written.{with_changes}
+use Rattle.lab_port.specs.Written.{with_changes, line_feeds, Stand}
 
--- the changes of a piece, before these pieces
-abbrev pub changes_at : Mark → Piece → List Piece → List Change
-changes_at (marks.Changed rule taken) piece rest = record {
+-- the changes of a piece, before these pieces, where these names stand for texts
+abbrev pub changes_at : List Meaning → Mark → Piece → List Piece → List Change
+changes_at names (marks.Changed rule taken) piece rest = record {
   at = piece.at;
   rule = rule;
   old = bytes_of (piece ∷ take taken rest);
-  new = flat_text rule piece.text (take taken rest);
+  new = flat_text names rule piece.text (take taken rest);
 } ∷ []
-changes_at _ piece rest = []
+changes_at names _ piece rest = []
 
-abbrev pub changes_from : List Piece → List Mark → List Change
-changes_from [] some = []
-changes_from (piece ∷ rest) [] = []
-changes_from (piece ∷ rest) (mark ∷ more) = changes_at mark piece rest ++ changes_from rest more
+abbrev pub changes_from : List Meaning → List Piece → List Mark → List Change
+changes_from names [] some = []
+changes_from names (piece ∷ rest) [] = []
+changes_from names (piece ∷ rest) (mark ∷ more) = changes_at names mark piece rest ++ changes_from names rest more
 
 -- a piece, if it has no form
 abbrev pub refusals_at : Mark → Piece → List Refusal
@@ -36,18 +43,56 @@ refusals_from [] some = []
 refusals_from (piece ∷ rest) [] = []
 refusals_from (piece ∷ rest) (mark ∷ more) = refusals_at mark piece ++ refusals_from rest more
 
--- the marks of the pieces of a source
-abbrev pub source_marks : List ℕ → List Mark
-source_marks source = marks_of (classes_of (pieces_of source))
+-- the marks of the pieces of a text in a stage
+abbrev pub stage_marks : Stage → List Piece → List Mark
+stage_marks stages.Names pieces = name_marks pieces
+stage_marks stages.Lists pieces = list_marks pieces
+stage_marks stages.Rules pieces = marks_of (classes_of pieces)
 
--- the changes of a source, in order
-abbrev pub changes_of : List ℕ → List Change
-changes_of source = changes_from (pieces_of source) (source_marks source)
+-- the names that stand for texts in a stage
+abbrev pub stage_names : Stage → List Piece → List Meaning
+stage_names stages.Names pieces = names_of pieces
+stage_names stages.Lists pieces = lists_of pieces
+stage_names stages.Rules pieces = []
 
--- the text that a source becomes: all but its changes is kept
+-- the changes of some pieces in a stage, in order
+abbrev pub stage_changes : Stage → List Piece → List Change
+stage_changes stage pieces = changes_from (stage_names stage pieces) pieces (stage_marks stage pieces)
+
+-- the changes of a text in a stage, in order
+abbrev pub changes_in : Stage → List ℕ → List Change
+changes_in stage text = stage_changes stage (pieces_of text)
+
+-- a text with its changes in a stage: all else is kept
+abbrev pub after : Stage → List ℕ → List ℕ
+after stage text = with_changes text 0 (changes_in stage text)
+
+-- a source with its names written out, and behind that with stores for its lists
+abbrev pub named_text : List ℕ → List ℕ
+named_text source = after stages.Names source
+
+abbrev pub listed_text : List ℕ → List ℕ
+listed_text source = after stages.Lists (named_text source)
+
+-- the text that a source becomes
 abbrev pub ported_text : List ℕ → List ℕ
-ported_text source = with_changes source 0 (changes_of source)
+ported_text source = after stages.Rules (listed_text source)
 
--- the tokens of a source that have no form, in order
+-- the tokens of a text that have no form, in order
 abbrev pub refusals_of : List ℕ → List Refusal
-refusals_of source = refusals_from (pieces_of source) (source_marks source)
+refusals_of text = refusals_from (pieces_of text) (stage_marks stages.Rules (pieces_of text))
+
+-- A stage of the port makes these changes of a text: they stand in it one behind another, all else is kept byte for byte,
+-- and each line feed stays.
+pub record IsStep (stage : Stage) (text : List ℕ) (step : Step) : Type 0 where
+  pub changes : step.changes.items ≡ changes_in stage text
+  pub apart : Stand text 0 step.changes.items
+  pub made : step.text.items ≡ with_changes text 0 step.changes.items
+  pub lines : line_feeds step.text.items ≡ line_feeds text
+
+-- What a source becomes by three stages, and the tokens without a form in the text of the second one.
+pub record Ports (source : List ℕ) (ported : Ported) : Type 0 where
+  pub names : IsStep stages.Names source ported.names
+  pub lists : IsStep stages.Lists ported.names.text.items ported.lists
+  pub rules : IsStep stages.Rules ported.lists.text.items ported.rules
+  pub refusals : ported.refusals.items ≡ refusals_of ported.lists.text.items

@@ -1,9 +1,12 @@
 -- What rules write.
-use Rattle.std.specs.Prelude.{ℕ, Bool, true, false, List, [], ◌∷◌, ◌++◌, ◌==◌, ◌||◌, if◌then◌else◌, codes, decimal, map}
+use Rattle.std.specs.Prelude.{ℕ, Bool, true, false, List, [], ◌∷◌, ◌++◌, ◌==◌, ◌||◌, if◌then◌else◌, codes, decimal, map, flat_map}
 use Rattle.lab_port_tokens.specs.declared.piece.Piece.{Piece}
 use Rattle.lab_port_tokens.specs.declared.piece.PieceKind.{PieceKind}
 use Rattle.lab_port_tokens.specs.declared.piece.PieceKind.TheVariants as kinds
 use Rattle.lab_port_words.specs.Texts.{without_suffix, plain_format, line_text}
+use Rattle.lab_port_names.specs.Names.{meaning_of}
+use Rattle.lab_port_lists.specs.Arrays.{array_text, declarator}
+use Rattle.lab_port_rules.specs.declared.rule.Meaning.{Meaning}
 use Rattle.lab_port_rules.specs.declared.rule.Rule.{Rule}
 use Rattle.lab_port_rules.specs.declared.rule.Rule.TheVariants as rules
 
@@ -18,6 +21,7 @@ text_among (piece ∷ rest) = if is_text piece.kind then piece.text else text_am
 
 -- the words that a rule writes for any token
 abbrev pub fixed_text : Rule → List ℕ
+fixed_text rules.EnumerationType = codes "int"
 fixed_text (rules.Type word) = codes "int"
 fixed_text rules.One = codes "1"
 fixed_text rules.Nought = codes "0"
@@ -42,18 +46,30 @@ printed_text text = codes "printf(" ++ line_text text ++ codes ")"
 
 -- what a rule writes for a token with these bytes, and the pieces that it takes; a number that stands for a character
 -- may follow a word
-abbrev pub new_text : Rule → List ℕ → List Piece → List ℕ
-new_text rules.Suffix text taken = without_suffix text
-new_text rules.UnsignedSuffix text taken = without_suffix text
-new_text (rules.Character number) text taken = 32 ∷ decimal number
-new_text rules.Format text taken = plain_format false text
-new_text rules.Puts text taken = printed_text (text_among taken)
-new_text rule text taken = fixed_text rule
+abbrev pub plain_text : Rule → List ℕ → List Piece → List ℕ
+plain_text rules.Suffix text taken = without_suffix text
+plain_text rules.UnsignedSuffix text taken = without_suffix text
+plain_text (rules.Character number) text taken = 32 ∷ decimal number
+plain_text rules.Format text taken = plain_format false text
+plain_text rules.Puts text taken = printed_text (text_among taken)
+plain_text rule text taken = fixed_text rule
+
+-- the `{` of `main`, and the stores of all arrays that get their values there
+abbrev pub filled_text : List Meaning → List ℕ
+filled_text names = codes "{" ++ flat_map (λ next. next.text) names
+
+-- the same where these names stand for texts
+abbrev pub new_text : List Meaning → Rule → List ℕ → List Piece → List ℕ
+new_text names rules.Use text taken = meaning_of text names
+new_text names rules.List text taken = array_text text taken
+new_text names rules.FileList text taken = declarator text taken
+new_text names rules.Fill text taken = filled_text names
+new_text names rule text taken = plain_text rule text taken
 
 -- a line end is a space
 abbrev pub flat_byte : ℕ → ℕ
 flat_byte byte = if byte == 10 || byte == 13 then 32 else byte
 
 -- what a rule writes, on one line
-abbrev pub flat_text : Rule → List ℕ → List Piece → List ℕ
-flat_text rule text taken = map flat_byte (new_text rule text taken)
+abbrev pub flat_text : List Meaning → Rule → List ℕ → List Piece → List ℕ
+flat_text names rule text taken = map flat_byte (new_text names rule text taken)

@@ -17,6 +17,10 @@ type_warning types.Unsigned = Some kinds.WrongValue
 type_warning _ = None
 
 abbrev pub warning_of : Rule → Option Kind
+warning_of rules.EnumerationType = Some kinds.WrongValue
+warning_of rules.EnumerationTypedef = Some kinds.WrongValue
+warning_of rules.List = Some kinds.Differs
+warning_of rules.Fill = Some kinds.Differs
 warning_of rules.Attribute = Some kinds.Differs
 warning_of rules.Suffix = Some kinds.Fault
 warning_of rules.Volatile = Some kinds.HidesRaces

@@ -1,21 +1,28 @@
 //! omplab port: wider C into the accepted subset: the text with its changes, and the tokens that have no form.
 //!
-//! `port` answers what a source becomes. Each byte that no change covers stays. Line feeds all stay, so each
-//! token stays on its line. `listing` has a line for each change, each warning and each token without a form.
+//! `port` answers what a source becomes, in three stages: names are written out (lab_port_names), lists of values
+//! become stores (lab_port_lists), and all other rules apply (lab_port_rules). Each byte that no change covers
+//! stays. Line feeds all stay, so each token stays on its line. `change_list` has a line for each change and each
+//! warning, and `refusal_list` says which tokens have no form.
 //!
-//! - lab_port_tokens cuts the source into pieces, lab_port_words says what each is, and lab_port_rules where
-//!   which rule applies. `text` has what a rule writes, `written` the text with it, and `ported` joins all.
+//! - lab_port_tokens cuts a text into pieces, lab_port_words says what each is. `stage` says what a stage finds in
+//!   a text, `text` what a rule writes, `written` the text with it, and `ported` joins all. `tally` counts.
 #![tactic(auto)]
 
 mod list;
 mod place;
 mod ported;
+mod stage;
+mod tally;
 mod text;
 mod words;
 mod written;
 
 pub use lab_port_rules::Rule;
 pub use lab_port_words::Lack;
-pub use list::listing;
-pub use ported::{Change, Ported, Refusal, port};
-pub use words::{Kind, warning_of};
+pub use list::{change_list, refusal_list};
+pub use place::line_of;
+pub use ported::{Change, Ported, Refusal, Step, port};
+pub use stage::Stage;
+pub use tally::{change_count, warning_count};
+pub use words::{Kind, lack_help, lack_words, name_of, warning_of};

@@ -1,13 +1,13 @@
 //! The list of changes, warnings and tokens without a form, in lines.
 
 ghost use Rattle.std.specs.Prelude.{◌≡◌, ◌++◌, ◌<◌, ◌^◌, map, Some, IfOk, OnOk};
-ghost use Rattle.lab_port.specs.Listings.{place_words, becomes, change_line, kind_words, rule_words, warning_by, change_lines, column_words, refusal_head, help_line, refusal_lines, changes_part, refusals_part, listing};
+ghost use Rattle.lab_port.specs.Listings.{place_words, becomes, change_line, kind_words, rule_words, warning_by, change_lines, column_words, refusal_head, help_line, refusal_lines, changes_part, refusals_part, change_list, refusal_list};
 ghost use Rattle.lab_port.specs.Texts.{flat_byte};
 ghost use Rattle.lab_port.specs.Places.{IsSeen};
 ghost use Rattle.lab_port.specs.Warnings.{warning_of};
 
 use crate::place::{Seen, at_first, place_in, push_excerpt, push_number, seen_at};
-use crate::ported::{Change, Refusal};
+use crate::ported::{Change, Ported, Refusal};
 use crate::text::flat_byte;
 use crate::words::{Kind, kind_name, lack_help, lack_words, name_of, warning_of, warning_words};
 use lab_port_rules::Rule;
@@ -15,21 +15,28 @@ use lab_port_words::Lack;
 use om_seq::AllocResult;
 use std::alloc::Global;
 
-/// A line for each change and for each of its warnings, and then what `check` would say of each token without a form.
-/// The only error is out of memory.
-pub fn listing(
+/// A line for each change and for each of its warnings, stage by stage. The only error is out of memory.
+pub fn change_list(
     alloc: Global,
     file: &str,
     source: &[u8],
-    changes: &[Change],
-    refusals: &[Refusal],
+    ported: &Ported,
 ) -> AllocResult<Vec<u8>>
-    ensures { IfOk result
-        (λ list. list.items ≡ listing file.now source.now changes.now refusals.now) }
+    ensures { IfOk result (λ list. list.items ≡ change_list file.now source.now ported.now) }
 {
     let mut out = Vec::new(alloc);
-    push_changes(&mut out, file, source, changes)?;
-    push_refusals(&mut out, file, source, refusals)?;
+    push_changes(&mut out, file, source, &ported.names.changes)?;
+    push_changes(&mut out, file, &ported.names.text, &ported.lists.changes)?;
+    push_changes(&mut out, file, &ported.lists.text, &ported.rules.changes)?;
+    Ok(out)
+}
+
+/// What `check` would say of each token without a form. The only error is out of memory.
+pub fn refusal_list(alloc: Global, file: &str, ported: &Ported) -> AllocResult<Vec<u8>>
+    ensures { IfOk result (λ list. list.items ≡ refusal_list file.now ported.now) }
+{
+    let mut out = Vec::new(alloc);
+    push_refusals(&mut out, file, &ported.lists.text, &ported.refusals)?;
     Ok(out)
 }
 

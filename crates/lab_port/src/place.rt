@@ -2,7 +2,7 @@
 
 ghost use Rattle.std.specs.Prelude.{◌≡◌, ◌++◌, ◌+◌, ◌<◌, ◌≤◌, ◌^◌, length, take, drop, decimal, map, flat_map, OnOk};
 ghost use Rattle.lab_port.specs.Written.{blank, line_feeds};
-ghost use Rattle.lab_port.specs.Places.{front_behind, place_in, IsSeen, line_rest, below, margin, line_shown, caret_below, shown, excerpt};
+ghost use Rattle.lab_port.specs.Places.{line_of, front_behind, place_in, IsSeen, line_rest, below, margin, line_shown, caret_below, shown, excerpt};
 
 use crate::written::blank;
 use itoa::Buffer;
@@ -38,6 +38,13 @@ pub(crate) fn place_in(source: &[u8], at: usize) -> usize
     ensures inside { result ≤ length source.now }
 {
     at.min(source.len())
+}
+
+/// The line of a place of a source, from 1; what is behind its end is the end.
+pub fn line_of(source: &[u8], at: usize) -> usize
+    ensures { result ≡ line_of source.now (place_in source.now at) }
+{
+    seen_at(at_first(), source, place_in(source, at)).line
 }
 
 /// Where a place stands, where another one is known.

@@ -2,24 +2,23 @@
 
 ghost use Rattle.std.specs.Prelude.{◌≡◌, ◌++◌, ◌∷◌, [], length, IfOk, OnOk};
 ghost use Rattle.lab_port_tokens.specs.Pieces.{bytes_of};
-ghost use Rattle.lab_port_words.specs.Tables.{classes_of};
-ghost use Rattle.lab_port_rules.specs.Marks.{marks_of};
 ghost use Rattle.lab_port.specs.Texts.{flat_text};
 ghost use Rattle.lab_port.specs.Written.{with_changes, line_feeds, Stand};
-ghost use Rattle.lab_port.specs.Portings.{changes_at, changes_from, refusals_at, refusals_from, ported_text, changes_of, refusals_of};
+ghost use Rattle.lab_port.specs.Portings.{changes_at, changes_from, stage_changes, changes_in, refusals_at, refusals_from, refusals_of, IsStep, Ports};
 
+use crate::stage::{Stage, marks_in};
 use crate::text::{taken_of, text_by};
 use crate::written::text_of;
-use lab_port_rules::{Mark, Rule, marks_of};
+use lab_port_rules::{Mark, Meaning, Rule};
 use lab_port_tokens::{Piece, pieces};
-use lab_port_words::{Lack, classes_of};
+use lab_port_words::Lack;
 use om_seq::{AllocResult, Seq};
 use std::alloc::Global;
 
-/// A change of a source.
+/// A change of a text.
 #[derive(Drop)]
 pub struct Change {
-    /// The byte of the source at which it begins.
+    /// The byte of the text at which it begins.
     pub at: usize,
     /// The rule that it is made by.
     pub rule: Rule,
@@ -29,101 +28,150 @@ pub struct Change {
     pub new: Seq<u8>,
 }
 
-/// A token of a source that has no form.
+/// A token of a text that has no form.
 #[derive(Clone, Copy)]
 pub struct Refusal {
-    /// Its first byte in the source.
+    /// Its first byte in the text.
     pub at: usize,
     /// Why it has no form.
     pub lack: Lack,
 }
 
+/// What a stage of the port makes of a text.
+#[derive(Drop)]
+pub struct Step {
+    /// The changes, in order.
+    pub changes: Vec<Change>,
+    /// The text with these changes, with as many line feeds.
+    pub text: Vec<u8>,
+}
+
 /// What a source becomes.
 #[derive(Drop)]
 pub struct Ported {
-    /// The text, with as many line feeds as the source.
-    pub text: Vec<u8>,
-    /// The changes, in order.
-    pub changes: Vec<Change>,
-    /// The tokens that have no form, in order. They stand in the text as in the source.
+    /// The source, with its names written out.
+    pub names: Step,
+    /// That text, with stores for its lists.
+    pub lists: Step,
+    /// That text, with all other rules: the ported text.
+    pub rules: Step,
+    /// The tokens of the text of `lists` that have no form, in order. They stand in the ported text as well.
     pub refusals: Vec<Refusal>,
 }
 
-/// What a source becomes by all rules. All that no change of the list covers is kept byte for byte, and each line
-/// feed stays. The only error is out of memory.
+/// What a source becomes by all rules, stage by stage. All that no change of a stage covers is kept byte for byte, and
+/// each line feed stays. The only error is out of memory.
 pub fn port(alloc: Global, source: &[u8]) -> AllocResult<Ported>
-    ensures changes { IfOk result (λ ported. ported.changes.items ≡ changes_of source.now) }
-    ensures apart { IfOk result (λ ported. Stand source.now 0 ported.changes.items) }
-    ensures text { IfOk result (λ ported. ported.text.items
-        ≡ with_changes source.now 0 ported.changes.items) }
-    ensures lines { IfOk result (λ ported. line_feeds ported.text.items ≡ line_feeds source.now) }
-    ensures refusals { IfOk result (λ ported. ported.refusals.items ≡ refusals_of source.now) }
+    ensures ports { IfOk result (Ports source.now) }
+    ensures lines { IfOk result (λ ported. line_feeds ported.rules.text.items ≡ line_feeds source.now) }
 {
-    let pieces = pieces(alloc, source)?;
-    let marks = marks_for(alloc, &pieces)?;
-    let changes = changes_of(alloc, &pieces, &marks)?;
-    let refusals = refusals_of(alloc, &pieces, &marks)?;
-    let text = text_of(alloc, source, &changes)?;
+    let names = step_of(alloc, Stage::Names, source)?;
+    let lists = step_of(alloc, Stage::Lists, &names.text)?;
+    let rules = step_of(alloc, Stage::Rules, &lists.text)?;
+    let refusals = refusals_of(alloc, &lists.text)?;
     Ok(Ported {
-        text,
-        changes,
+        names,
+        lists,
+        rules,
         refusals,
     })
 }
 
-// The marks of all pieces of a source.
-fn marks_for(alloc: Global, pieces: &[Piece]) -> AllocResult<Vec<Mark>>
-    ensures marks { IfOk result (λ marks. marks.items ≡ marks_of (classes_of pieces.now)) }
-    ensures length { IfOk result (λ marks. length marks.items ≡ length pieces.now) }
+// What a stage makes of a text.
+fn step_of(alloc: Global, stage: Stage, text: &[u8]) -> AllocResult<Step>
+    ensures { IfOk result (IsStep stage text.now) }
 {
-    let classes = classes_of(alloc, pieces)?;
-    let marks = marks_of(alloc, classes.as_slice())?;
-    Ok(marks)
+    let changes = changes_in(alloc, stage, text)?;
+    let made = text_of(alloc, text, &changes)?;
+    Ok(Step {
+        changes,
+        text: made,
+    })
 }
 
-// The changes of some pieces by their marks.
-fn changes_of(alloc: Global, pieces: &[Piece], marks: &[Mark]) -> AllocResult<Vec<Change>>
+// The changes of a text in a stage.
+fn changes_in(alloc: Global, stage: Stage, text: &[u8]) -> AllocResult<Vec<Change>>
+    ensures changes { IfOk result (λ changes. changes.items ≡ changes_in stage text.now) }
+    ensures apart { IfOk result (λ changes. Stand text.now 0 changes.items) }
+{
+    let pieces = pieces(alloc, text)?;
+    let changes = stage_changes(alloc, stage, &pieces)?;
+    Ok(changes)
+}
+
+// The changes of some pieces in a stage.
+fn stage_changes(alloc: Global, stage: Stage, pieces: &[Piece]) -> AllocResult<Vec<Change>>
+    ensures { IfOk result (λ changes. changes.items ≡ stage_changes stage pieces.now) }
+{
+    let found = marks_in(alloc, stage, pieces)?;
+    changes_of(alloc, found.names.as_slice(), pieces, &found.marks)
+}
+
+// The tokens of a text that have no form.
+fn refusals_of(alloc: Global, text: &[u8]) -> AllocResult<Vec<Refusal>>
+    ensures { IfOk result (λ refusals. refusals.items ≡ refusals_of text.now) }
+{
+    let pieces = pieces(alloc, text)?;
+    let found = marks_in(alloc, Stage::Rules, &pieces)?;
+    lacking(alloc, &pieces, &found.marks)
+}
+
+// The changes of some pieces by their marks, where these names stand for texts.
+fn changes_of(
+    alloc: Global,
+    names: &[Meaning],
+    pieces: &[Piece],
+    marks: &[Mark],
+) -> AllocResult<Vec<Change>>
     requires { length marks.now ≡ length pieces.now }
-    ensures { IfOk result (λ changes. changes.items ≡ changes_from pieces.now marks.now) }
+    ensures { IfOk result (λ changes. changes.items ≡ changes_from names.now pieces.now marks.now) }
 {
     let mut changes = Vec::new(alloc);
     for (i, piece) in pieces.iter().enumerate() {
-        push_change(alloc, &mut changes, marks[i], piece, &pieces[i + 1..])?;
+        let mut more = changes_at(alloc, names, marks[i], piece, &pieces[i + 1..])?;
+        changes.append(&mut more)?;
     }
     Ok(changes)
 }
 
-// Appends the change of a piece, if it has one.
-fn push_change(
+// The changes of a piece, before these pieces.
+fn changes_at(
     alloc: Global,
-    changes: &mut Vec<Change>,
+    names: &[Meaning],
     mark: Mark,
     piece: &Piece,
     rest: &[Piece],
-) -> AllocResult<()>
-    ensures { OnOk result
-        (changes.new.items ≡ changes.old.items ++ changes_at mark piece.now rest.now) }
+) -> AllocResult<Vec<Change>>
+    ensures { IfOk result
+        (λ changes. changes.items ≡ changes_at names.now mark piece.now rest.now) }
 {
+    let mut changes = Vec::new(alloc);
     let Mark::Changed(rule, taken) = mark else {
-        return Ok(());
+        return Ok(changes);
     };
-    let change = change_of(alloc, rule, piece, taken_of(rest, taken))?;
+    let change = change_of(alloc, names, rule, piece, taken_of(rest, taken))?;
     changes.push(change)?;
-    Ok(())
+    Ok(changes)
 }
 
 // The change that a rule makes of a piece and those that it takes.
-fn change_of(alloc: Global, rule: Rule, piece: &Piece, taken: &[Piece]) -> AllocResult<Change>
+fn change_of(
+    alloc: Global,
+    names: &[Meaning],
+    rule: Rule,
+    piece: &Piece,
+    taken: &[Piece],
+) -> AllocResult<Change>
     ensures { IfOk result (λ change. change ≡ record {
       at = piece.now.at;
       rule = rule;
       old = bytes_of (piece.now ∷ taken.now);
-      new = flat_text rule piece.now.text taken.now;
+      new = flat_text names.now rule piece.now.text taken.now;
     }) }
 {
     let mut old = Vec::from_slice(alloc, piece.text.as_slice())?;
     push_bytes(&mut old, taken)?;
-    let new = text_by(alloc, rule, piece.text.as_slice(), taken)?;
+    let new = text_by(alloc, names, rule, piece.text.as_slice(), taken)?;
     Ok(Change {
         at: piece.at,
         rule,
@@ -143,7 +191,7 @@ fn push_bytes(out: &mut Vec<u8>, pieces: &[Piece]) -> AllocResult<()>
 }
 
 // The tokens of some pieces that have no form.
-fn refusals_of(alloc: Global, pieces: &[Piece], marks: &[Mark]) -> AllocResult<Vec<Refusal>>
+fn lacking(alloc: Global, pieces: &[Piece], marks: &[Mark]) -> AllocResult<Vec<Refusal>>
     requires { length marks.now ≡ length pieces.now }
     ensures { IfOk result (λ refusals. refusals.items ≡ refusals_from pieces.now marks.now) }
 {

@@ -1,9 +1,11 @@
 //! What rules write.
 
-ghost use Rattle.std.specs.Prelude.{◌≡◌, ◌++◌, ◌∷◌, [], decimal, map, IfOk, OnOk, take};
-ghost use Rattle.lab_port.specs.Texts.{is_text, text_among, fixed_text, printed_text, new_text, flat_byte, flat_text};
+ghost use Rattle.std.specs.Prelude.{◌≡◌, ◌++◌, ◌∷◌, [], decimal, map, flat_map, IfOk, OnOk, take};
+ghost use Rattle.lab_port.specs.Texts.{is_text, text_among, fixed_text, printed_text, plain_text, filled_text, new_text, flat_byte, flat_text};
 
-use lab_port_rules::Rule;
+use lab_port_lists::{array_text, declarator};
+use lab_port_names::meaning_of;
+use lab_port_rules::{Meaning, Rule};
 use lab_port_tokens::{Piece, PieceKind};
 use lab_port_words::{push_format, push_line_text, push_number, push_without_suffix};
 use om_seq::AllocResult;
@@ -13,14 +15,14 @@ use std::alloc::Global;
 /// out of memory.
 pub(crate) fn text_by(
     alloc: Global,
+    names: &[Meaning],
     rule: Rule,
     text: &[u8],
     taken: &[Piece],
 ) -> AllocResult<Vec<u8>>
-    ensures { IfOk result (λ out. out.items ≡ flat_text rule text.now taken.now) }
+    ensures { IfOk result (λ out. out.items ≡ flat_text names.now rule text.now taken.now) }
 {
-    let mut new = Vec::new(alloc);
-    push_new(&mut new, rule, text, taken)?;
+    let new = new_text(alloc, names, rule, text, taken)?;
     let flat = new.iter().map(flat_byte).collect(alloc)?;
     Ok(flat)
 }
@@ -47,9 +49,55 @@ pub(crate) fn taken_of(rest: &[Piece], taken: usize) -> &[Piece]
     }
 }
 
-// Appends what a rule writes for a token with these bytes, and the pieces that it takes.
-fn push_new(out: &mut Vec<u8>, rule: Rule, text: &[u8], taken: &[Piece]) -> AllocResult<()>
-    ensures { OnOk result (out.new.items ≡ out.old.items ++ new_text rule text.now taken.now) }
+// What a rule writes for a token with these bytes, and the pieces that it takes.
+fn new_text(
+    alloc: Global,
+    names: &[Meaning],
+    rule: Rule,
+    text: &[u8],
+    taken: &[Piece],
+) -> AllocResult<Vec<u8>>
+    ensures { IfOk result (λ out. out.items ≡ new_text names.now rule text.now taken.now) }
+{
+    match rule {
+        Rule::Use => Vec::from_slice(alloc, meaning_of(text, names)),
+        Rule::List => array_text(alloc, text, taken),
+        Rule::FileList => declarator(alloc, text, taken),
+        Rule::Fill => filled_text(alloc, names),
+        _ => plain_text(alloc, rule, text, taken),
+    }
+}
+
+// The `{` of `main`, and the stores of all arrays that get their values there.
+fn filled_text(alloc: Global, names: &[Meaning]) -> AllocResult<Vec<u8>>
+    ensures { IfOk result (λ out. out.items ≡ filled_text names.now) }
+{
+    let mut out = Vec::from_slice(alloc, b"{")?;
+    push_texts(&mut out, names)?;
+    Ok(out)
+}
+
+// Appends the texts of some names.
+fn push_texts(out: &mut Vec<u8>, names: &[Meaning]) -> AllocResult<()>
+    ensures { OnOk result (out.new.items ≡ out.old.items ++ flat_map (λ next. next.text) names.now) }
+{
+    for next in names {
+        out.extend_from_slice(next.text.as_slice())?;
+    }
+    Ok(())
+}
+
+// The same of a rule that needs no names and writes no stores.
+fn plain_text(alloc: Global, rule: Rule, text: &[u8], taken: &[Piece]) -> AllocResult<Vec<u8>>
+    ensures { IfOk result (λ out. out.items ≡ plain_text rule text.now taken.now) }
+{
+    let mut out = Vec::new(alloc);
+    push_plain(&mut out, rule, text, taken)?;
+    Ok(out)
+}
+
+fn push_plain(out: &mut Vec<u8>, rule: Rule, text: &[u8], taken: &[Piece]) -> AllocResult<()>
+    ensures { OnOk result (out.new.items ≡ out.old.items ++ plain_text rule text.now taken.now) }
 {
     match rule {
         Rule::Suffix | Rule::UnsignedSuffix => push_without_suffix(out, text),
@@ -103,6 +151,7 @@ fn fixed_text(rule: Rule) -> &'static [u8]
     ensures { result.now ≡ fixed_text rule }
 {
     match rule {
+        Rule::EnumerationType => b"int",
         Rule::Type(_) => b"int",
         Rule::One => b"1",
         Rule::Nought => b"0",

@@ -21,11 +21,16 @@ pub enum Kind {
 }
 
 /// The name of a rule.
-pub(crate) fn name_of(rule: Rule) -> &'static [u8]
+pub fn name_of(rule: Rule) -> &'static [u8]
     ensures { result.now ≡ name_of rule }
 {
     match rule {
         Rule::Include => b"include",
+        Rule::Macro => b"macro",
+        Rule::Use => b"name",
+        Rule::Enumeration | Rule::EnumerationType | Rule::EnumerationTypedef => b"enum",
+        Rule::Typedef => b"typedef",
+        Rule::List | Rule::FileList | Rule::Fill => b"list",
         Rule::Storage | Rule::Attribute => b"storage",
         Rule::Volatile => b"volatile",
         Rule::Type(word) | Rule::TypeAgain(word) => type_name(word),
@@ -67,6 +72,8 @@ pub fn warning_of(rule: Rule) -> Option<Kind>
         Rule::Volatile | Rule::Wait => Some(Kind::HidesRaces),
         Rule::Type(word) | Rule::TypeAgain(word) => type_warning(word),
         Rule::UnsignedSuffix | Rule::NarrowCast => Some(Kind::WrongValue),
+        Rule::EnumerationType | Rule::EnumerationTypedef => Some(Kind::WrongValue),
+        Rule::List | Rule::Fill => Some(Kind::Differs),
         Rule::Suffix | Rule::WideCast => Some(Kind::Fault),
         Rule::Zero | Rule::InParallel => Some(Kind::WrongValue),
         Rule::Attribute | Rule::Routine | Rule::PrintError | Rule::Format | Rule::Main => Some(
@@ -107,6 +114,8 @@ pub(crate) fn warning_words(rule: Rule) -> &'static [u8]
     match rule {
         Rule::Volatile => b"no read or write is kept or added by it here",
         Rule::Wait => b"no time passes, and the schedule decides",
+        Rule::EnumerationType | Rule::EnumerationTypedef => b"a negative value differs",
+        Rule::List | Rule::Fill => b"the stores are steps",
         Rule::Attribute => b"what it asks for is not done here",
         Rule::Type(word) | Rule::TypeAgain(word) => type_words(word),
         Rule::UnsignedSuffix => b"an operand that is negative or above 2147483647 differs",
@@ -138,7 +147,7 @@ fn type_words(word: TypeWord) -> &'static [u8]
 }
 
 /// Why a token has no form.
-pub(crate) fn lack_words(lack: Lack) -> &'static [u8]
+pub fn lack_words(lack: Lack) -> &'static [u8]
     ensures { result.now ≡ lack_words lack }
 {
     match lack {
@@ -159,7 +168,7 @@ pub(crate) fn lack_words(lack: Lack) -> &'static [u8]
 }
 
 /// What to write for it.
-pub(crate) fn lack_help(lack: Lack) -> &'static [u8]
+pub fn lack_help(lack: Lack) -> &'static [u8]
     ensures { result.now ≡ lack_help lack }
 {
     match lack {

@@ -1,14 +1,13 @@
 -- What is answered for a source.
-use Rattle.std.specs.Prelude.{◌≡◌, ℕ, zero, suc, List, [], ◌∷◌, ◌++◌, ◌==◌, ◌||◌, Bool, not, if◌then◌else◌, codes, decimal, length, count_by, is_some, Result, Ok, Err}
+use Rattle.std.specs.Prelude.{◌≡◌, ℕ, zero, suc, List, [], ◌∷◌, ◌++◌, ◌==◌, ◌||◌, Bool, not, if◌then◌else◌, codes, decimal, length, Result, Ok, Err}
 use Rattle.om_code.specs.declared.raw.Raw.{Raw}
 use Rattle.om_lexer.specs.declared.fault.SourceFault.{SourceFault}
 use Rattle.om_frontend.specs.Verdict.{IsVerdict}
 use Rattle.lab_check.specs.Reports.{Reports}
-use Rattle.lab_port.specs.declared.ported.Change.{Change}
-use Rattle.lab_port.specs.Portings.{changes_of, refusals_of}
-use Rattle.lab_port.specs.Written.{with_changes}
-use Rattle.lab_port.specs.Warnings.{warning_of}
-use Rattle.lab_port.specs.Listings.{listing}
+use Rattle.lab_port.specs.declared.ported.Ported.{Ported}
+use Rattle.lab_port.specs.Portings.{Ports}
+use Rattle.lab_port.specs.Tallies.{change_count, warning_count}
+use Rattle.lab_port.specs.Listings.{change_list, refusal_list}
 use Rattle.lab_port_answer.specs.declared.answered.Answer.{Answer}
 
 -- a number and a word, with an `s` unless there is one
@@ -27,46 +26,61 @@ refused_words changes warnings refusals =
     changes_words changes warnings ++ codes "; " ++ counted refusals (codes "token")
     ++ codes " without a form; the text is not accepted\n"
 
--- how many changes have a warning
-abbrev pub warnings_in : List Change → ℕ
-warnings_in changes = count_by (λ change. is_some (warning_of change.rule)) changes
+-- what is said of a text of which the port makes this again
+abbrev pub left_words : Ported → List ℕ
+left_words again =
+    if change_count again == 0 then [] else codes "a rule has a place in the text still: port it once more\n"
 
--- what is said where these changes are left in a text
-abbrev pub left_words : List Change → List ℕ
-left_words [] = []
-left_words (change ∷ more) = codes "a rule has a place in the text still: port it once more\n"
+-- the list for a source whose text is accepted: each change and each warning has its line
+abbrev pub accepted_list : List ℕ → List ℕ → Ported → List ℕ
+accepted_list file source ported =
+    change_list file source ported ++ accepted_words (change_count ported) (warning_count ported)
 
--- the list for a source with these changes, whose text has this report with this status: each change and each warning
--- has its line, and where the text is refused, each token without a form, and what `check` says of the text
-abbrev pub told : List ℕ → List ℕ → List Change → List ℕ → List ℕ → ℕ → List ℕ
-told file source changes text report zero =
-    listing file source changes [] ++ accepted_words (length changes) (warnings_in changes)
-told file source changes text report (suc more) =
-    listing file source changes (refusals_of source) ++ left_words (changes_of text) ++ report
-    ++ refused_words (length changes) (warnings_in changes) (length (refusals_of source))
+-- the list for a source whose text is refused by this report: each change and each warning, each token without a form,
+-- whether a rule has a place in the text still, and what `check` says of it
+abbrev pub refused_list : List ℕ → List ℕ → Ported → Ported → List ℕ → List ℕ
+refused_list file source ported again report =
+    change_list file source ported ++ refusal_list file ported ++ left_words again ++ report
+    ++ refused_words (change_count ported) (warning_count ported) (length ported.refusals.items)
 
--- an accepted source has no changes
-abbrev pub changes_by : List ℕ → Result Raw SourceFault → List Change
-changes_by source (Ok program) = []
-changes_by source (Err fault) = changes_of source
+-- The list of a refused text, of which the port makes this again.
+pub record TellsRefused (file source : List ℕ) (ported : Ported) (report list : List ℕ) : Type 0 where
+  pub again : Ported
+  pub ports : Ports ported.rules.text.items again
+  pub told : list ≡ refused_list file source ported again report
 
--- The answer for a source has the text with these changes, the verdict on that text, and its list.
-pub record IsAnswer (file source : List ℕ) (changes : List Change) (answer : Answer) : Type 0 where
-  pub text : answer.text.items ≡ with_changes source 0 changes
+-- the list, by the status of the report on the text
+abbrev pub Tells : List ℕ → List ℕ → Ported → List ℕ → ℕ → List ℕ → Type 0
+Tells file source ported report zero list = list ≡ accepted_list file source ported
+Tells file source ported report (suc more) list = TellsRefused file source ported report list
+
+-- An accepted source is left as it is, with no change.
+pub record IsKept (file source : List ℕ) (answer : Answer) : Type 0 where
+  pub text : answer.text.items ≡ source
+  pub listed : answer.list.items ≡ accepted_words 0 0
+  pub warned : answer.warnings ≡ 0
+  pub status : answer.status ≡ 0
+
+-- The answer has the text that the port makes of a source, the verdict on that text, and its list.
+pub record IsPorted (file source : List ℕ) (answer : Answer) : Type 0 where
+  pub ported : Ported
+  pub ports : Ports source ported
+  pub text : answer.text.items ≡ ported.rules.text.items
   pub report : List ℕ
   pub checked : Reports file answer.text.items report answer.status
-  pub listed : answer.list.items ≡ told file source changes answer.text.items report answer.status
-  pub warned : answer.warnings ≡ warnings_in changes
+  pub listed : Tells file source ported report answer.status answer.list.items
+  pub warned : answer.warnings ≡ warning_count ported
 
--- all places of the rules are changed
-abbrev pub Ports : List ℕ → List ℕ → Answer → Type 0
-Ports file source answer = IsAnswer file source (changes_of source) answer
+-- an accepted source is kept, and any other is ported
+abbrev pub AnswersBy : List ℕ → List ℕ → Result Raw SourceFault → Answer → Type 0
+AnswersBy file source (Ok program) answer = IsKept file source answer
+AnswersBy file source (Err fault) answer = IsPorted file source answer
 
--- By the verdict on the source it is left as it is, or all places of the rules are changed.
+-- By the verdict on the source it is left as it is, or ported.
 pub record Answers (file source : List ℕ) (answer : Answer) : Type 0 where
   pub verdict : Result Raw SourceFault
   pub judged : IsVerdict source verdict
-  pub answers : IsAnswer file source (changes_by source verdict) answer
+  pub answers : AnswersBy file source verdict answer
 
 -- the text is not accepted, or a change has a warning
 abbrev pub is_held_back : Answer → Bool

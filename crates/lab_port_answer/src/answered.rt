@@ -11,7 +11,7 @@ pub struct Answer {
     /// The list of its changes, of the tokens without a form, and the verdict, in lines.
     pub list: Vec<u8>,
     /// How many changes have a warning.
-    pub warnings: usize,
+    pub warnings: u128,
     /// 0 where the text is accepted, and 1 where it is refused.
     pub status: u8,
 }

@@ -7,7 +7,7 @@ use itoa::Buffer;
 use om_seq::AllocResult;
 
 /// Appends the last line of an answer whose text is accepted. The only error is out of memory.
-pub(crate) fn push_accepted(out: &mut Vec<u8>, changes: usize, warnings: usize) -> AllocResult<()>
+pub(crate) fn push_accepted(out: &mut Vec<u8>, changes: u128, warnings: u128) -> AllocResult<()>
     ensures { OnOk result (out.new.items ≡ out.old.items ++ accepted_words changes warnings) }
 {
     push_changes(out, changes, warnings)?;
@@ -17,9 +17,9 @@ pub(crate) fn push_accepted(out: &mut Vec<u8>, changes: usize, warnings: usize) 
 /// Appends the last line of an answer whose text is refused. The only error is out of memory.
 pub(crate) fn push_refused(
     out: &mut Vec<u8>,
-    changes: usize,
-    warnings: usize,
-    refusals: usize,
+    changes: u128,
+    warnings: u128,
+    refusals: u128,
 ) -> AllocResult<()>
     ensures { OnOk result
         (out.new.items ≡ out.old.items ++ refused_words changes warnings refusals) }
@@ -31,7 +31,7 @@ pub(crate) fn push_refused(
 }
 
 // Appends how many changes and warnings there are.
-fn push_changes(out: &mut Vec<u8>, changes: usize, warnings: usize) -> AllocResult<()>
+fn push_changes(out: &mut Vec<u8>, changes: u128, warnings: u128) -> AllocResult<()>
     ensures { OnOk result (out.new.items ≡ out.old.items ++ changes_words changes warnings) }
 {
     push_counted(out, changes, b"change")?;
@@ -40,7 +40,7 @@ fn push_changes(out: &mut Vec<u8>, changes: usize, warnings: usize) -> AllocResu
 }
 
 // Appends a number and a word, with an `s` unless there is one.
-fn push_counted(out: &mut Vec<u8>, count: usize, word: &[u8]) -> AllocResult<()>
+fn push_counted(out: &mut Vec<u8>, count: u128, word: &[u8]) -> AllocResult<()>
     ensures { OnOk result (out.new.items ≡ out.old.items ++ counted count word.now) }
 {
     let mut buffer = Buffer::new();
@@ -50,7 +50,7 @@ fn push_counted(out: &mut Vec<u8>, count: usize, word: &[u8]) -> AllocResult<()>
     out.extend_from_slice(ending(count))
 }
 
-fn ending(count: usize) -> &'static [u8]
+fn ending(count: u128) -> &'static [u8]
     ensures { result.now ≡ (if count == 1 then [] else 115 ∷ []) }
 {
     if count == 1 { b"" } else { b"s" }

@@ -1,16 +1,13 @@
 //! What is answered for a source: the text, the verdict on it, and the list.
 
-ghost use Rattle.std.specs.Prelude.{◌≡◌, ◌++◌, [], length, IfOk, OnOk};
-ghost use Rattle.lab_port.specs.Portings.{changes_of, refusals_of};
-ghost use Rattle.lab_port.specs.Written.{with_changes};
-ghost use Rattle.lab_port.specs.Listings.{listing};
-ghost use Rattle.lab_check.specs.Reports.{Reports};
-ghost use Rattle.lab_port_answer.specs.Answers.{warnings_in, left_words, accepted_words, refused_words, told, Ports, Answers};
+ghost use Rattle.std.specs.Prelude.{◌≡◌, ◌++◌, IfOk, OnOk};
+ghost use Rattle.lab_port.specs.Portings.{Ports};
+ghost use Rattle.lab_port_answer.specs.Answers.{left_words, accepted_words, accepted_list, Tells, TellsRefused, IsKept, IsPorted, Answers};
 
 use crate::answered::Answer;
 use crate::summary::{push_accepted, push_refused};
 use lab_check::{Report, report};
-use lab_port::{Change, Ported, listing, port, warning_of};
+use lab_port::{Ported, change_count, change_list, port, refusal_list, warning_count};
 use om_seq::AllocResult;
 use std::alloc::Global;
 
@@ -49,30 +46,21 @@ fn unchanged(alloc: Global, source: &[u8]) -> AllocResult<Answer>
 
 // The answer for a source that is refused.
 fn changed(alloc: Global, file: &str, source: &[u8], workers: u8) -> AllocResult<Answer>
-    ensures { IfOk result (λ answer. Ports file.now source.now answer) }
+    ensures { IfOk result (λ answer. IsPorted file.now source.now answer) }
 {
     let ported = port(alloc, source)?;
-    let after = report(alloc, file, &ported.text, workers)?;
-    let warnings = warnings_in(&ported.changes);
+    let after = report(alloc, file, &ported.rules.text, workers)?;
+    let warnings = warning_count(&ported);
     let list = list_of(alloc, file, source, &ported, &after)?;
     let status = after.status;
     drop(after);
+    let rules = ported.rules;
     Ok(Answer {
-        text: ported.text,
+        text: rules.text,
         list,
         warnings,
         status,
     })
-}
-
-// How many changes have a warning.
-fn warnings_in(changes: &[Change]) -> usize
-    ensures { result ≡ warnings_in changes.now }
-{
-    changes
-        .iter()
-        .filter(|change| warning_of(change.rule).is_some())
-        .count()
 }
 
 // The list of the changes of a source, and the verdict on its text.
@@ -83,49 +71,56 @@ fn list_of(
     ported: &Ported,
     after: &Report,
 ) -> AllocResult<Vec<u8>>
-    requires changes { ported.now.changes.items ≡ changes_of source.now }
-    requires refusals { ported.now.refusals.items ≡ refusals_of source.now }
-    ensures { IfOk result (λ list. list.items ≡ told file.now source.now (changes_of source.now)
-        ported.now.text.items after.now.text.items after.now.status) }
+    ensures { IfOk result (λ list. Tells file.now source.now ported.now after.now.text.items
+        after.now.status list.items) }
 {
     if after.status == 0 {
-        return accepted_list(alloc, file, source, &ported.changes);
+        return accepted_list(alloc, file, source, ported);
     }
-    let mut list = listing(alloc, file, source, &ported.changes, &ported.refusals)?;
-    push_left(alloc, &mut list, &ported.text)?;
-    list.extend_from_slice(&after.text)?;
-    let warnings = warnings_in(&ported.changes);
+    refused_list(alloc, file, source, ported, &after.text)
+}
+
+// The list of the changes of a source whose text is accepted.
+fn accepted_list(alloc: Global, file: &str, source: &[u8], ported: &Ported) -> AllocResult<Vec<u8>>
+    ensures { IfOk result (λ list. list.items ≡ accepted_list file.now source.now ported.now) }
+{
+    let mut list = change_list(alloc, file, source, ported)?;
+    push_accepted(&mut list, change_count(ported), warning_count(ported))?;
+    Ok(list)
+}
+
+// The list of the changes of a source whose text is refused by this report.
+fn refused_list(
+    alloc: Global,
+    file: &str,
+    source: &[u8],
+    ported: &Ported,
+    report: &[u8],
+) -> AllocResult<Vec<u8>>
+    ensures { IfOk result
+        (λ list. TellsRefused file.now source.now ported.now report.now list.items) }
+{
+    let again = port(alloc, &ported.rules.text)?;
+    let refusals = refusal_list(alloc, file, ported)?;
+    let mut list = change_list(alloc, file, source, ported)?;
+    list.extend_from_slice(&refusals)?;
+    list.extend_from_slice(left_words(&again))?;
+    list.extend_from_slice(report)?;
     push_refused(
         &mut list,
-        ported.changes.len(),
-        warnings,
-        ported.refusals.len(),
+        change_count(ported),
+        warning_count(ported),
+        ported.refusals.len() as u128,
     )?;
     Ok(list)
 }
 
-// The list of the changes of a source whose text is accepted.
-fn accepted_list(
-    alloc: Global,
-    file: &str,
-    source: &[u8],
-    changes: &[Change],
-) -> AllocResult<Vec<u8>>
-    ensures { IfOk result (λ list. list.items ≡ listing file.now source.now changes.now []
-        ++ accepted_words (length changes.now) (warnings_in changes.now)) }
+// Says whether a rule has a place in the text still, of which the port makes this.
+fn left_words(again: &Ported) -> &'static [u8]
+    ensures { result.now ≡ left_words again.now }
 {
-    let mut list = listing(alloc, file, source, changes, &[])?;
-    push_accepted(&mut list, changes.len(), warnings_in(changes))?;
-    Ok(list)
-}
-
-// Says whether a rule has a place in the text still.
-fn push_left(alloc: Global, list: &mut Vec<u8>, text: &[u8]) -> AllocResult<()>
-    ensures { OnOk result (list.new.items ≡ list.old.items ++ left_words (changes_of text.now)) }
-{
-    let again = port(alloc, text)?;
-    if again.changes.is_empty() {
-        return Ok(());
+    if change_count(again) == 0 {
+        return b"";
     }
-    list.extend_from_slice(b"a rule has a place in the text still: port it once more\n")
+    b"a rule has a place in the text still: port it once more\n"
 }

@@ -8,6 +8,8 @@ use Rattle.lab_port_words.specs.declared.class.Word.TheVariants as words
 use Rattle.lab_port_words.specs.declared.class.TypeWord.{TypeWord}
 use Rattle.lab_port_words.specs.declared.class.TypeWord.TheVariants as types
 use Rattle.lab_port_words.specs.Classes.{is_gap, is_word}
+use Rattle.lab_port_words.specs.Tables.{class_of}
+use Rattle.lab_port_tokens.specs.declared.piece.Piece.{Piece}
 use Rattle.lab_port_context.specs.declared.ahead.Call.{Call}
 use Rattle.lab_port_context.specs.declared.ahead.Call.TheVariants as calls
 use Rattle.lab_port_context.specs.declared.ahead.Paren.{Paren}
@@ -39,6 +41,12 @@ abbrev pub nth_class : ℕ → List Class → Class
 nth_class n [] = classes.LineEnd
 nth_class n (c ∷ rest) =
     if is_gap c then nth_class n rest else if n == 0 then c else nth_class (n - 1) rest
+
+-- the bytes of the n-th token that follows, the next one for 0; none where there is none
+abbrev pub nth_text : ℕ → List Piece → List ℕ
+nth_text n [] = []
+nth_text n (piece ∷ rest) =
+    if is_gap (class_of piece) then nth_text n rest else if n == 0 then piece.text else nth_text (n - 1) rest
 
 -- how many pieces there are up to the n-th token and with it, besides these
 abbrev pub size_to : ℕ → ℕ → List Class → ℕ

@@ -1,10 +1,11 @@
 //! What follows a piece.
 
 ghost use Rattle.std.specs.Prelude.{◌≡◌, ◌≤◌, ◌+◌, length, IfSome};
-ghost use Rattle.lab_port_context.specs.Ahead.{ends_line, line_size, of_line, nth_class, size_to, is_open, is_close, is_semicolon, is_comma, is_star, is_any, paren_opens, paren_closes, paren_changes, paren_passes, paren_at_sign, paren_step, closes, call_size, semicolon_behind, statement_size, run_end, is_library, may_precede, name_size, name_ahead, prototype_size, cast_wider, cast_same, cast_with, cast_word, cast_close, cast_step, cast_ahead};
+ghost use Rattle.lab_port_context.specs.Ahead.{ends_line, line_size, of_line, nth_class, nth_text, size_to, is_open, is_close, is_semicolon, is_comma, is_star, is_any, paren_opens, paren_closes, paren_changes, paren_passes, paren_at_sign, paren_step, closes, call_size, semicolon_behind, statement_size, run_end, is_library, may_precede, name_size, name_ahead, prototype_size, cast_wider, cast_same, cast_with, cast_word, cast_close, cast_step, cast_ahead};
 
 use crate::context::{deeper, is_floating_type};
-use lab_port_words::{Class, Sign, TypeWord, Word, is_gap, is_word};
+use lab_port_tokens::Piece;
+use lab_port_words::{Class, Sign, TypeWord, Word, class_of, is_gap, is_word};
 
 /// A list in parentheses, and what may stand in it.
 #[derive(Clone, Copy)]
@@ -105,6 +106,23 @@ pub fn nth_class(n: usize, rest: &[Class]) -> Class
         left -= 1;
     }
     Class::LineEnd
+}
+
+/// The bytes of the n-th token that follows, the next one for 0; none where there is none.
+pub fn nth_text(n: usize, rest: &[Piece]) -> &[u8]
+    ensures { result.now ≡ nth_text n rest.now }
+{
+    let mut left = n;
+    for piece in rest {
+        if is_gap(class_of(piece)) {
+            continue;
+        }
+        if left == 0 {
+            return piece.text.as_slice();
+        }
+        left -= 1;
+    }
+    b""
 }
 
 /// How many pieces there are up to the n-th token and with it.

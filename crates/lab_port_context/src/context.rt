@@ -226,8 +226,8 @@ fn parens_behind(depth: usize, class: Class) -> usize
     }
 }
 
-// Whether it is a word of a type of whole numbers.
-fn is_whole_type(class: Class) -> bool
+/// Whether it is a word of a type of whole numbers.
+pub fn is_whole_type(class: Class) -> bool
     ensures { result ≡ is_whole_type class }
 {
     match class {
@@ -248,7 +248,8 @@ pub fn is_floating_type(class: Class) -> bool
     }
 }
 
-fn is_main(class: Class) -> bool
+/// Whether it is the name `main`.
+pub fn is_main(class: Class) -> bool
     ensures { result ≡ is_main class }
 {
     match class {

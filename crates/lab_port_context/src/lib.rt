@@ -12,8 +12,11 @@ mod facts;
 
 pub use ahead::{
     Call, Cast, CastEnd, call_size, cast_end, is_close, is_comma, is_library, is_open,
-    is_semicolon, is_star, name_ahead, nth_class, of_line, prototype_size, run_end, size_to,
-    statement_size,
+    is_semicolon, is_star, name_ahead, nth_class, nth_text, of_line, prototype_size, run_end,
+    size_to, statement_size,
 };
-pub use context::{Context, Line, at_first, context_behind, is_abort, is_floating_type, is_stdlib};
+pub use context::{
+    Context, Line, at_first, context_behind, deeper, is_abort, is_code, is_floating_type, is_main,
+    is_stdlib, is_whole_type,
+};
 pub use facts::{Facts, facts_of, in_sight, is_assert, is_type};

@@ -14,5 +14,6 @@ mod library;
 mod mark;
 mod rule;
 
-pub use mark::{Mark, marks_of};
-pub use rule::Rule;
+pub use library::begins_statement;
+pub use mark::{Mark, marks_of, taken_after};
+pub use rule::{Meaning, Rule};

@@ -58,7 +58,7 @@ pub(crate) fn changed_by(size: Option<usize>, rule: Rule) -> Mark
 }
 
 /// Whether a statement or a declaration may begin there.
-pub(crate) fn begins_statement(context: Context) -> bool
+pub fn begins_statement(context: Context) -> bool
     ensures { result ≡ begins_statement context }
 {
     context.parens == 0 && begins_after(context.last)

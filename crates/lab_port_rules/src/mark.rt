@@ -119,8 +119,8 @@ fn mark_here(facts: Facts, place: Place, class: Class, rest: &[Class]) -> Mark
     }
 }
 
-// How many pieces are taken after a piece with this mark.
-fn taken_after(taken: usize, mark: Mark) -> usize
+/// How many pieces are taken after a piece with this mark, where so many are taken with it.
+pub fn taken_after(taken: usize, mark: Mark) -> usize
     ensures { result ≡ taken_after taken mark }
 {
     if taken == 0 {

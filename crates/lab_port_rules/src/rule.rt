@@ -1,12 +1,40 @@
 //! The rules.
 
 use lab_port_words::TypeWord;
+use om_seq::Seq;
+
+/// What stands for a name: the body of a macro, or the stores that give an array its values.
+#[derive(Drop)]
+pub struct Meaning {
+    /// The name, as it stands in the source.
+    pub name: Seq<u8>,
+    /// The text that is written for it.
+    pub text: Seq<u8>,
+}
 
 /// A rule, with what decides its text and its warning.
 #[derive(Clone, Copy)]
 pub enum Rule {
     /// `include`: a header that is left out.
     Include,
+    /// `macro`: the line of a macro that is written out.
+    Macro,
+    /// `macro`: a name that is written out.
+    Use,
+    /// `enum`: the definition of an enumeration, whose constants are written out.
+    Enumeration,
+    /// `enum`: the type of an enumeration becomes `int`.
+    EnumerationType,
+    /// `enum`: the definition of a name for the type of an enumeration, whose constants are written out too.
+    EnumerationTypedef,
+    /// `typedef`: the definition of a name for a type, which is written out.
+    Typedef,
+    /// `list`: an array in a block, whose values are stored behind its declaration.
+    List,
+    /// `list`: an array at file scope, whose values are stored at the beginning of `main`.
+    FileList,
+    /// `list`: the `{` of `main`, behind which the arrays at file scope get their values.
+    Fill,
     /// `storage`: a word of storage, or a prototype of the library, that is left out.
     Storage,
     /// `storage`: an `__attribute__` that is left out.

@@ -6,6 +6,7 @@ ghost use Rattle.std.specs.Prelude.{◌<◌, ◌≤◌};
 
 use crate::meter::{AGAIN, Meter};
 use lab_check::{Report, report};
+use lab_check_kinds::checked;
 use lab_draw::{Page, page};
 use lab_hunt::{Aims, Hunted, push_report};
 use lab_notes::annotate;
@@ -67,7 +68,9 @@ impl<H> Host<'_, '_, H> {
 
 /// Says whether a source is accepted, and else why not.
 pub(crate) fn check<H, W: Write>(host: &Host<'_, '_, H>, writer: &mut W) -> Result<u8, ShellFault> {
-    let report = host.report(host.options.source.unwrap_or(&[]))?;
+    let source = host.options.source.unwrap_or(&[]);
+    let file = host.file.unwrap_or(INPUT);
+    let report = checked(host.alloc, file, source, host.options.workers)?;
     let status = if report.status == 0 { DONE } else { BAD };
     written(writer, &report.text, status)
 }

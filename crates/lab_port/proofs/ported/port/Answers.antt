@@ -1,30 +1,23 @@
-use Rattle.std.proofs.Common.{sym, subst}
-use Rattle.lab_port.specs.Written.{Stand}
-use Rattle.lab_port.proofs.Wholes.{whole_stand, whole_lines}
+use Rattle.std.proofs.Common.{ap, ◌∙◌}
+use Rattle.lab_port.specs.declared.stage.Stage.TheVariants as stages
+use Rattle.lab_port.specs.Portings.{refusals_of}
+use Rattle.lab_port.proofs.Wholes.{step_on}
 use Rattle.lab_port.proofs.ported.port.Goals as goal
 
-pub text_of-requires : goal.text_of-requires
-text_of-requires c =
-    let stand =
-    whole_stand c.args.source.now c.in_ok-pieces.pieces.items c.deref.result.now c.deref-2.result.now
-    c.in_ok-marks.marks.items c.deref-3.result.now c.in_ok-changes.changes.items c.in_ok-pieces.ensures.pieces
-    c.deref.ensures.value c.deref-2.ensures.value c.in_ok-marks.ensures.marks c.deref-3.ensures.value
-    c.in_ok-changes.ensures in
-    subst (Stand c.args.source.now 0) (sym c.deref-6.ensures.value) stand
-
-pub returns-clause-apart : goal.returns-clause-apart
-returns-clause-apart c =
-    whole_stand c.args.source.now c.in_ok-pieces.pieces.items c.deref.result.now c.deref-2.result.now
-    c.in_ok-marks.marks.items c.deref-3.result.now c.in_ok-changes.changes.items c.in_ok-pieces.ensures.pieces
-    c.deref.ensures.value c.deref-2.ensures.value c.in_ok-marks.ensures.marks c.deref-3.ensures.value
-    c.in_ok-changes.ensures
+pub returns-clause-ports : goal.returns-clause-ports
+returns-clause-ports c = record {
+  names = c.in_ok-names.ensures;
+  lists = step_on stages.Lists c.in_ok-names.names.text.items c.deref.result.now c.in_ok-lists.lists
+      c.deref.ensures.value c.in_ok-lists.ensures;
+  rules = step_on stages.Rules c.in_ok-lists.lists.text.items c.deref-2.result.now c.in_ok-rules.rules
+      c.deref-2.ensures.value c.in_ok-rules.ensures;
+  refusals = c.in_ok-refusals.ensures ∙ ap refusals_of c.deref-3.ensures.value;
+}
 
 pub returns-clause-lines : goal.returns-clause-lines
 returns-clause-lines c =
-    let stand =
-    whole_stand c.args.source.now c.in_ok-pieces.pieces.items c.deref.result.now c.deref-2.result.now
-    c.in_ok-marks.marks.items c.deref-3.result.now c.in_ok-changes.changes.items c.in_ok-pieces.ensures.pieces
-    c.deref.ensures.value c.deref-2.ensures.value c.in_ok-marks.ensures.marks c.deref-3.ensures.value
-    c.in_ok-changes.ensures in
-    whole_lines c.args.source.now c.deref-6.result.now c.in_ok-text.text.items
-    (subst (Stand c.args.source.now 0) (sym c.deref-6.ensures.value) stand) c.in_ok-text.ensures.text
+    let lists = step_on stages.Lists c.in_ok-names.names.text.items c.deref.result.now c.in_ok-lists.lists
+    c.deref.ensures.value c.in_ok-lists.ensures in
+    let rules = step_on stages.Rules c.in_ok-lists.lists.text.items c.deref-2.result.now c.in_ok-rules.rules
+    c.deref-2.ensures.value c.in_ok-rules.ensures in
+    rules.lines ∙ lists.lines ∙ c.in_ok-names.ensures.lines

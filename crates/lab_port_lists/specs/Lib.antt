@@ -1,0 +1,4 @@
+pub mod Shapes
+pub mod Values
+pub mod Arrays
+pub mod Places
