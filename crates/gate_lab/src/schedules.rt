@@ -49,7 +49,7 @@ fn facts(alloc: Global, report: &str) -> AllocResult<Vec<u8>> {
     let (first, rest) = cut(report, '\n');
     let mut lines: Vec<&str> = Vec::new(alloc);
     for line in rest.lines() {
-        if !line.starts_with("   ") && !line.ends_with(" steps") {
+        if !line.starts_with("   ") && !is_size(line) {
             lines.push(fact_in(line))?;
         }
     }
@@ -60,6 +60,11 @@ fn facts(alloc: Global, report: &str) -> AllocResult<Vec<u8>> {
         push_line(&mut text, line)?;
     }
     Ok(text)
+}
+
+// Whether a line says how much was looked at.
+fn is_size(line: &str) -> bool {
+    line.ends_with(" steps") || line.ends_with(" step")
 }
 
 // A line without its number, and without who stands before an access.

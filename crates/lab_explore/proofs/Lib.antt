@@ -1,3 +1,5 @@
 pub mod ActLemmas
 pub mod WayLemmas
 pub mod SearchLemmas
+pub mod NextLemmas
+pub mod BeginLemmas

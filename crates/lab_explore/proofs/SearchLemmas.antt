@@ -1,5 +1,6 @@
 -- A search, by what it does next.
-use Rattle.std.proofs.Common.{◌≡◌, ◌≢◌, refl, sym, ◌∙◌, ap, subst, ℕ, suc, ◌+◌, ◌<◌, ◌≤◌, Bool, true, false, Option, None, Some}
+use Rattle.std.proofs.Common.{◌≡◌, ◌≢◌, refl, sym, ◌∙◌, ap, subst, ℕ, suc, ◌+◌}
+use Rattle.std.proofs.Common.{◌<◌, ◌≤◌, Bool, true, false, Option, None, Some}
 use Rattle.std.proofs.Common.{List, [], ◌∷◌, ◌++◌, map, length, arith, ⊎_elim, ◌⊎◌, inl, inr}
 use Rattle.std.specs.Prelude.{All, Contains, slice_get, drop}
 use Rattle.std.proofs.lemmas.List.{map-append}
@@ -21,7 +22,8 @@ use Rattle.lab_explore_closed.specs.declared.found.Met.{Met}
 use Rattle.lab_explore_closed.specs.declared.found.Verdict.{Verdict}
 use Rattle.lab_explore_closed.specs.declared.found.Verdict.TheVariants as verdict
 use Rattle.lab_explore_closed.specs.Endings.{IsMet}
-use Rattle.lab_explore_closed.specs.Explored.{AreAllEnds, AreAllFaults, AreAllRaces, ending_of_found, met_of_found, pair_of_found}
+use Rattle.lab_explore_closed.specs.Explored.{AreAllEnds, AreAllFaults, AreAllRaces, ending_of_found}
+use Rattle.lab_explore_closed.specs.Explored.{met_of_found, pair_of_found}
 use Rattle.lab_explore_closed.specs.Lists.{AllDifferent}
 use Rattle.lab_explore_closed.specs.Races.{IsRace}
 use Rattle.lab_explore_closed.specs.Runs.{AreOf, Leads, IsReached, IsEnd}
@@ -29,13 +31,17 @@ use Rattle.lab_explore_moves.specs.declared.possible.PossibleStep.{PossibleStep}
 use Rattle.lab_explore_moves.specs.Possible.{IsPossible, ArePossible, label_of_possible}
 use Rattle.lab_explore_notes.specs.declared.notes.Notes as notes
 use Rattle.lab_explore_notes.specs.Notes.{AreSound, IsNoted, KeepsAll, IsOnWay}
-use Rattle.lab_explore_states.specs.Sets.{WalkView, StatesView, StandsAt, Inserts, GoesBack, gone_to, at_the_start, seen}
+use Rattle.lab_explore_states.specs.Sets.{WalkView, StatesView, StandsAt, Inserts, GoesBack}
+use Rattle.lab_explore_states.specs.Sets.{gone_to, at_the_start, seen}
 use Rattle.lab_explore.specs.declared.search.Search.{Search}
 use Rattle.lab_explore.specs.declared.todo.Todo.{Todo}
-use Rattle.lab_explore.specs.Acts.{Act, Try, Back, act_of, tries, in_order, state_by, past_by, Stands, AllLead, AllLeadBut}
+use Rattle.lab_explore.specs.Acts.{Act, Try, Back, act_of, tries, in_order}
+use Rattle.lab_explore.specs.Acts.{state_by, past_by, Stands, AllLead, AllLeadBut}
 use Rattle.lab_explore.specs.Searches.{acts_of, IsSafe, IsUnderWay, IsSearch, HasArrived, Answers, Arrives}
-use Rattle.lab_explore.proofs.ActLemmas.{stands_on, stands_more, not_made, made_again, made_new, all_tried, nothing_left}
-use Rattle.lab_explore.proofs.WayLemmas.{undone, IsOneMore, one_more_made, none_made, IsFurther, leads_on, leads_back, last_own}
+use Rattle.lab_explore.proofs.ActLemmas.{stands_on, stands_more, not_made, made_again}
+use Rattle.lab_explore.proofs.ActLemmas.{made_new, all_tried, nothing_left}
+use Rattle.lab_explore.proofs.WayLemmas.{undone, IsOneMore, one_more_made, none_made, IsFurther}
+use Rattle.lab_explore.proofs.WayLemmas.{leads_on, leads_back, last_own}
 
 -- lists whose items differ
 
@@ -61,7 +67,8 @@ module _ (program : Raw) (workers : ℕ) where
 
   -- what stays where only notes and acts change
 
-  abbrev way_with : (acts new : List Act) (x y : Search) (way : IsUnderWay program workers acts x) → y.machine ≡ x.machine
+  abbrev way_with : (acts new : List Act) (x y : Search) (way : IsUnderWay program workers acts x) → y.machine ≡
+      x.machine
       → y.stored ≡ x.stored → Stands (rules_of program workers) workers (seen x.stored).states new way.latest
       → IsUnderWay program workers new y
   way_with acts new x y way m s stands = record {
@@ -70,7 +77,8 @@ module _ (program : Raw) (workers : ℕ) where
     latest = way.latest;
     entries = ap (λ (n : MachineView). n.history.entries) m ∙ way.entries;
     leads = subst IsOnWay (sym m) way.leads;
-    stands_at = subst (λ n. StandsAt n (seen y.stored)) (sym m) (subst (λ t. StandsAt x.machine (seen t)) (sym s) way.stands_at);
+    stands_at = subst (λ n. StandsAt n (seen y.stored)) (sym m) (subst (λ t. StandsAt x.machine (seen t)) (sym s)
+        way.stands_at);
     past = ap (λ (t : WalkView). (seen t).past) s ∙ way.past;
     stands = subst (λ (t : WalkView). Stands (rules_of program workers) workers (seen t).states new way.latest) (sym s)
         stands;
@@ -133,58 +141,6 @@ module _ (program : Raw) (workers : ℕ) where
       subst (λ (n : ℕ). AreSound x.machine.program n x.notes) (sym h.way.workers_are)
       (subst (λ (p : Raw). AreSound p workers x.notes) (sym h.way.program_is) h.safe.sound)
 
-  -- a search that begins
-
-  pub begun : (x : Search) (s : StatesView) (added : Bool) → x.machine ≡ at_start program workers
-      → s ≡ at_the_start program workers → Inserts added s (seen x.stored) → x.todos ≡ []
-      → ((p : Raw) (n : ℕ) → AreSound p n x.notes)
-      → HasArrived program workers (acts_of x) x
-  begun x s false m is inserts none sound =
-      let at : Contains [] (rules_of program workers).start =
-      subst (λ (t : StatesView). Contains t.states t.at) is inserts.0 in
-      absurd (omega (arith, at.1))
-  begun x s true m is inserts none sound =
-      let r : Rules = rules_of program workers in
-      let stored : seen x.stored ≡ record (at_the_start program workers) { states = r.start ∷ [] } =
-      inserts.1 ∙ ap (λ (t : StatesView). record t { states = t.states ++ t.at ∷ [] }) is in
-      let leads : IsOnWay (at_start program workers) = record { own = tt; replayed = refl } in
-      let states : (seen x.stored).states ≡ r.start ∷ [] = ap (λ (t : StatesView). t.states) stored in
-      record {
-        safe = record {
-          sound = sound program workers;
-          reached = subst (λ ss. All (IsReached r workers) ss) (sym states)
-              (All-cons (IsReached r workers) r.start [] (record { labels = []; leads = leads })
-              (All-nil (IsReached r workers)));
-          different = subst (λ (ss : List State). AllDifferent ss) (sym states)
-              ((λ at. absurd (omega (arith, at.1))), tt);
-        };
-        way = record {
-          program_is = ap (λ (n : MachineView). n.program) m;
-          workers_are = ap (λ (n : MachineView). n.workers) m;
-          latest = [];
-          entries = ap (λ (n : MachineView). n.history.entries) m;
-          leads = subst IsOnWay (sym m) leads;
-          stands_at = subst (λ n. StandsAt n (seen x.stored)) (sym m) (subst (λ t. StandsAt (at_start program workers) t)
-              (sym stored) (record { program = refl; workers = refl; state = refl }));
-          past = ap (λ (t : StatesView). t.past) stored;
-          stands = subst (λ todos. Stands r workers (seen x.stored).states (map act_of todos) []) (sym none) refl;
-        };
-        start = subst (λ ss. Contains ss r.start) (sym states) (0, omega arith, refl);
-        here = subst (λ (n : MachineView). Contains (seen x.stored).states (state_in n)) (sym m)
-            (subst (λ ss. Contains ss r.start) (sym states) (0, omega arith, refl));
-        closed = λ t u l at own step. inr (only t at states);
-        noted = λ t at. inr (only t at states);
-      }
-    where
-      one : (start t : State) → Contains (start ∷ []) t → start ≡ t
-      one start t at = ⊎_elim (λ no. absurd (omega (arith, no.1))) (λ is. is) (Contains-push_cases [] start t at)
-
-      only : (t : State) → Contains (seen x.stored).states t → (seen x.stored).states ≡ (rules_of program workers).start ∷ []
-          → state_in x.machine ≡ t
-      only t at states =
-          ap (λ (n : MachineView). state_in n) m
-          ∙ one (rules_of program workers).start t (subst (λ ss. Contains ss t) states at)
-
   -- a search that takes its latest step back
 
   pub can_go_back : (w : ℕ) (acts : List Act) (x : Search) → IsSearch program workers (Back w ∷ acts) x
@@ -192,7 +148,8 @@ module _ (program : Raw) (workers : ℕ) where
   can_go_back w acts x h = go h.way.latest h.way.entries h.way.stands
     where
       go : (latest : List Entry) → x.machine.history.entries ≡ in_order latest
-          → Stands (rules_of program workers) workers (seen x.stored).states (Back w ∷ acts) latest → w < x.machine.workers
+          → Stands (rules_of program workers) workers (seen x.stored).states (Back w ∷ acts) latest → w <
+          x.machine.workers
       go [] is stands = absurd stands
       go (e ∷ latest) is stands =
           subst (λ n. n < x.machine.workers) stands.0
@@ -224,16 +181,23 @@ module _ (program : Raw) (workers : ℕ) where
       go (e ∷ latest) entries past stands closed =
           let r : Rules = rules_of program workers in
           let es : List Entry = in_order latest in
-          let back : y.machine ≡ record x.machine { history = record { entries = es; made = x.machine.history.made } } =
+          let back : y.machine ≡ record x.machine {
+            history = record {
+              entries = es;
+              made = x.machine.history.made;
+            };
+          } =
           m ∙ undone x.machine es e w entries stands.0 in
           let states : (seen x.stored).states ≡ (seen y.stored).states = ap (λ (t : StatesView). t.states) s in
-          let before : (seen x.stored).past ≡ (seen y.stored).at ∷ (seen y.stored).past = ap (λ (t : StatesView). t.past) s in
+          let before : (seen x.stored).past ≡ (seen y.stored).at ∷ (seen y.stored).past = ap (λ (t : StatesView).
+          t.past) s in
           let pasts : (seen y.stored).at ∷ (seen y.stored).past ≡ state_by r latest ∷ past_by r latest =
           sym before ∙ past in
           let at : (seen y.stored).at ≡ state_by r latest = cc in
           let pasts_rest : (seen y.stored).past ≡ past_by r latest = cc in
           let program_is : y.machine.program ≡ program = ap (λ (n : MachineView). n.program) back ∙ h.way.program_is in
-          let workers_are : y.machine.workers ≡ workers = ap (λ (n : MachineView). n.workers) back ∙ h.way.workers_are in
+          let workers_are : y.machine.workers ≡ workers = ap (λ (n : MachineView). n.workers) back ∙
+          h.way.workers_are in
           let now : y.machine.history.entries ≡ es = ap (λ (n : MachineView). n.history.entries) back in
           let leads : Leads r workers (map label_of es) (state_of_entries r es) =
           leads_back r workers es e (state_of_entries r (es ++ e ∷ []))
@@ -375,7 +339,8 @@ module _ (program : Raw) (workers : ℕ) where
         start = subst (λ ss. Contains ss r.start) (sym states)
             (Contains-append_left (seen x.stored).states (u ∷ []) r.start h.start);
         here = subst (λ ss. Contains ss (state_in y.machine)) (sym states)
-            (subst (λ t. Contains ((seen x.stored).states ++ u ∷ []) t) (sym here) (Contains-push (seen x.stored).states u));
+            (subst (λ t. Contains ((seen x.stored).states ++ u ∷ []) t) (sym here) (Contains-push (seen
+            x.stored).states u));
         closed = subst (λ ss. AllLeadBut r workers ss (Back l.worker ∷ acts) (e ∷ latest) (state_in y.machine))
             (sym states)
             (subst (λ t. AllLeadBut r workers ((seen x.stored).states ++ u ∷ []) (Back l.worker ∷ acts) (e ∷ latest) t)
@@ -390,7 +355,8 @@ module _ (program : Raw) (workers : ℕ) where
 
   pub made_back : (l : Label) (acts : List Act) (x y : Search) (m : MachineView) (s t : StatesView)
       → IsSearch program workers (Try l ∷ acts) x → IsOneMore x.machine l m → s ≡ gone_to (state_in m) (seen x.stored)
-      → Contains s.states s.at → t ≡ s → y.machine ≡ with_undo m l.worker → GoesBack t (seen y.stored) → y.notes ≡ x.notes
+      → Contains s.states s.at → t ≡ s → y.machine ≡ with_undo m l.worker → GoesBack t (seen y.stored) → y.notes ≡
+      x.notes
       → IsSearch program workers acts y
   made_back l acts x y m s t h more follows known same back goes n =
       let r : Rules = rules_of program workers in
@@ -420,9 +386,11 @@ module _ (program : Raw) (workers : ℕ) where
       leads_on r workers (in_order latest) e l (state_by r latest) u before more.label h.way.stands.0 step in
       let there : state_in m ≡ u =
       (λ i. state_of_entries (rules_of (m_program i) (m_workers i)) (m_entries i)) ∙ on.state in
-      let stored : gone_to (state_in m) (seen x.stored) ≡ gone_to t.at (seen y.stored) = sym follows ∙ sym same ∙ goes in
+      let stored : gone_to (state_in m) (seen x.stored) ≡ gone_to t.at (seen y.stored) = sym follows ∙ sym same ∙
+      goes in
       let states : (seen x.stored).states ≡ (seen y.stored).states = ap (λ (k : StatesView). k.states) stored in
-      let pasts : (seen x.stored).at ∷ (seen x.stored).past ≡ (seen y.stored).at ∷ (seen y.stored).past = ap (λ (k : StatesView). k.past) stored in
+      let pasts : (seen x.stored).at ∷ (seen x.stored).past ≡ (seen y.stored).at ∷ (seen y.stored).past = ap (λ (k
+      : StatesView). k.past) stored in
       let at : (seen x.stored).at ≡ (seen y.stored).at = cc in
       let past : (seen x.stored).past ≡ (seen y.stored).past = cc in
       let in_it : Contains (seen x.stored).states u =
@@ -470,7 +438,8 @@ module _ (program : Raw) (workers : ℕ) where
       subst (λ more. AllLead r workers (seen x.stored).states more h.way.latest) none h.closed in
       let all : (ls : List Label) (t : State) → Leads r workers ls t → IsNoted program workers x.notes t =
       λ ls t leads. h.noted t (stays r workers (λ v. Contains (seen x.stored).states v)
-      (nothing_left r workers (seen x.stored).states h.way.latest closed) ls r.start t h.start leads.own leads.replayed) in
+      (nothing_left r workers (seen x.stored).states h.way.latest closed) ls r.start t h.start leads.own
+      leads.replayed) in
       record {
         safe = safe_with x y (subst (λ k. AreSound program workers k) (sym n) h.safe.sound) s h.safe;
         all_ends = λ _. subst (λ (k : notes.Notes). AreAllEnds program workers (map ending_of_found k.ends)) (sym n)
@@ -488,135 +457,3 @@ module _ (program : Raw) (workers : ℕ) where
 
       not_stopped : verdict.Complete ≡ verdict.Stopped → ⊥
       not_stopped h = cc
-
-  pub stopped : (limits : Limits) (x : Search) (steps : ℕ) → IsSafe program workers x → limits.steps ≡ Some steps
-      → Answers program workers limits verdict.Stopped x
-  stopped limits x steps safe given = record {
-    safe = safe;
-    all_ends = λ no. absurd (never no);
-    all_faults = λ no. absurd (never no);
-    all_races = λ no. absurd (never no);
-    gave_up = λ no. absurd (not_that no);
-    asked = λ _ none. some none;
-  }
-    where
-      never : verdict.Stopped ≡ verdict.Complete → ⊥
-      never h = cc
-
-      not_that : verdict.Stopped ≡ verdict.NotComplete → ⊥
-      not_that h = cc
-
-      some : limits.steps ≡ None → ⊥
-      some none = let no : None ≡ Some steps = sym none ∙ given in cc
-
-  pub gave_up : (limits : Limits) (x : Search) → IsSafe program workers x → limits.states ≤ length (seen x.stored).states
-      → Answers program workers limits verdict.NotComplete x
-  gave_up limits x safe many = record {
-    safe = safe;
-    all_ends = λ no. absurd (never no);
-    all_faults = λ no. absurd (never no);
-    all_races = λ no. absurd (never no);
-    gave_up = λ _. many;
-    asked = λ no. absurd (not_that no);
-  }
-    where
-      never : verdict.NotComplete ≡ verdict.Complete → ⊥
-      never h = cc
-
-      not_that : verdict.NotComplete ≡ verdict.Stopped → ⊥
-      not_that h = cc
-
-  pub out_of_memory : (limits : Limits) (x : Search) → IsSafe program workers x
-      → Answers program workers limits verdict.OutOfMemory x
-  out_of_memory limits x safe = record {
-    safe = safe;
-    all_ends = λ no. absurd (never no);
-    all_faults = λ no. absurd (never no);
-    all_races = λ no. absurd (never no);
-    gave_up = λ no. absurd (not_that no);
-    asked = λ no. absurd (nor_that no);
-  }
-    where
-      never : verdict.OutOfMemory ≡ verdict.Complete → ⊥
-      never h = cc
-
-      not_that : verdict.OutOfMemory ≡ verdict.NotComplete → ⊥
-      not_that h = cc
-
-      nor_that : verdict.OutOfMemory ≡ verdict.Stopped → ⊥
-      nor_that h = cc
-
-  -- a set behind a step, and what is known by whether its state is new
-
-  pub inserted_past : (added : Bool) (s t u : StatesView) (m : State) → s ≡ gone_to m u → Inserts added s t
-      → t.past ≡ u.at ∷ u.past
-  inserted_past true s t u m follows inserts =
-      ap (λ (k : StatesView). k.past) inserts.1 ∙ ap (λ (k : StatesView). k.past) follows
-  inserted_past false s t u m follows inserts =
-      ap (λ (k : StatesView). k.past) inserts.1 ∙ ap (λ (k : StatesView). k.past) follows
-
-  pub was_there : (added : Bool) (s t : StatesView) → Inserts added s t → added ≡ false
-      → Contains s.states s.at × (t ≡ s)
-  was_there true s t inserts old = cc
-  was_there false s t inserts old = inserts
-
-  pub arrives_old : (l : Label) (added : Bool) (x : Search) → added ≡ false
-      → IsSearch program workers (acts_of x) x → Arrives program workers l added x
-  arrives_old l true x old h = cc
-  arrives_old l false x old h = h
-
-  pub arrives_new : (l : Label) (added : Bool) (x : Search) → added ≡ true
-      → HasArrived program workers (Back l.worker ∷ acts_of x) x → Arrives program workers l added x
-  arrives_new l true x new h = h
-  arrives_new l false x new h = cc
-
-  pub has_arrived : (l : Label) (added : Bool) (x : Search) → added ≡ true → Arrives program workers l added x
-      → HasArrived program workers (Back l.worker ∷ acts_of x) x
-  has_arrived l true x new h = h
-  has_arrived l false x new h = cc
-
-  -- what is to be done is no part of where a search stands
-
-  abbrev way_but : (acts : List Act) (x : Search) (todos : List Todo) → IsUnderWay program workers acts x
-      → IsUnderWay program workers acts (record x { todos = todos })
-  way_but acts x todos h = record {
-    program_is = h.program_is;
-    workers_are = h.workers_are;
-    latest = h.latest;
-    entries = h.entries;
-    leads = h.leads;
-    stands_at = h.stands_at;
-    past = h.past;
-    stands = h.stands;
-  }
-
-  pub search_but : (acts : List Act) (x : Search) (todos : List Todo) → IsSearch program workers acts x
-      → IsSearch program workers acts (record x { todos = todos })
-  search_but acts x todos h = record {
-    safe = record { sound = h.safe.sound; reached = h.safe.reached; different = h.safe.different };
-    way = way_but acts x todos h.way;
-    start = h.start;
-    closed = h.closed;
-    noted = h.noted;
-  }
-
-  pub arrived_but : (acts : List Act) (x : Search) (todos : List Todo) → HasArrived program workers acts x
-      → HasArrived program workers acts (record x { todos = todos })
-  arrived_but acts x todos h = record {
-    safe = record { sound = h.safe.sound; reached = h.safe.reached; different = h.safe.different };
-    way = way_but acts x todos h.way;
-    start = h.start;
-    here = h.here;
-    closed = h.closed;
-    noted = h.noted;
-  }
-
--- what is done next
-
-pub popped : (ts : List Todo) (t : Todo) → Some t ≡ slice_get ts 0 → ts ≡ t ∷ drop 1 ts
-popped [] t h = cc
-popped (x ∷ xs) t h = let same : t ≡ x = cc in ap (λ y. y ∷ xs) (sym same)
-
-pub none_popped : (ts : List Todo) → None ≡ slice_get ts 0 → ts ≡ []
-none_popped [] h = refl
-none_popped (x ∷ xs) h = cc

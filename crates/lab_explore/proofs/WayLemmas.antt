@@ -38,7 +38,8 @@ last_undone : (r : Rules) (es : List Entry) (e : Entry) (n : ℕ)
 last_undone r es e n =
     let h : History = record { entries = es ++ e ∷ []; made = n } in
     ap (λ o. history_without h o (reply_to_undo r h e.worker)) (last_is e.worker es e refl)
-    ∙ ap (λ reply. history_without h (Some (record { earlier = es; entry = e; later = [] })) reply) (is_undone r es e n)
+    ∙ ap (λ reply. history_without h (Some (record { earlier = es; entry = e; later = [] })) reply) (is_undone r es
+    e n)
     ∙ (λ i. record { entries = append-nil es i; made = n })
 
 pub undone : (m : MachineView) (es : List Entry) (e : Entry) (w : ℕ) → m.history.entries ≡ es ++ e ∷ []
@@ -53,7 +54,13 @@ undone m es e w h is =
 pub record IsOneMore (m : MachineView) (l : Label) (n : MachineView) : Type 0 where
   pub entry : Entry
   pub label : label_of entry ≡ l
-  pub machine : n ≡ record m { history = record { entries = m.history.entries ++ entry ∷ []; made = m.history.made + 1 } }
+  pub machine : n ≡ record m {
+    history = record {
+      entries = m.history.entries ++ entry ∷ [];
+      made = m.history.made
+          + 1;
+    };
+  }
   pub state : State
   pub next : next_state (rules_for m) (state_in m) l ≡ Some state
 

@@ -1,5 +1,6 @@
 -- What is true of a search between two things that it does.
-use Rattle.std.specs.Prelude.{◌≡◌, ◌≢◌, ℕ, ◌≤◌, ◌⊎◌, Bool, true, false, Some, None, List, ◌∷◌, map, length, All, Contains, Option}
+use Rattle.std.specs.Prelude.{◌≡◌, ◌≢◌, ℕ, ◌≤◌, ◌⊎◌, Bool, true, false, Some}
+use Rattle.std.specs.Prelude.{None, List, ◌∷◌, map, length, All, Contains, Option}
 use Rattle.om_code.specs.declared.raw.Raw.{Raw}
 use Rattle.om_state.specs.declared.step.Entry.{Entry}
 use Rattle.om_state.specs.declared.step.Label.{Label}
@@ -53,7 +54,8 @@ pub record HasArrived (program : Raw) (workers : ℕ) (acts : List Act) (x : Sea
   pub way : IsUnderWay program workers acts x
   pub start : Contains (seen x.stored).states (rules_of program workers).start
   pub here : Contains (seen x.stored).states (state_in x.machine)
-  pub closed : AllLeadBut (rules_of program workers) workers (seen x.stored).states acts way.latest (state_in x.machine)
+  pub closed : AllLeadBut (rules_of program workers) workers (seen x.stored).states acts way.latest (state_in
+      x.machine)
   pub noted : (s : State) → Contains (seen x.stored).states s
       → IsNoted program workers x.notes s ⊎ (state_in x.machine ≡ s)
 
@@ -71,7 +73,8 @@ abbrev pub GoesOn : Raw → ℕ → Limits → Option Verdict → Search → Typ
 GoesOn program workers limits None x = IsSearch program workers (acts_of x) x
 GoesOn program workers limits (Some verdict) x = Answers program workers limits verdict x
 
--- a step was made: to a new state, at which the search has arrived, with the step to be taken back later; or to one that
+-- a step was made: to a new state, at which the search has arrived, with the step to be taken back later; or to one
+-- that
 -- was stored, and then the step is taken back
 abbrev pub Arrives : Raw → ℕ → Label → Bool → Search → Type 0
 Arrives program workers l true x = HasArrived program workers (Back l.worker ∷ acts_of x) x

@@ -121,7 +121,12 @@ met_there program s n (control.Running stack) m e own h line = cc
 met_there program s n (control.Ended value) m e own h line = cc
 met_there program s n (control.Faulted fault stack) m e own h line =
     let same : fault ≡ m.fault = cc in
-    let is : (let one : Met = record { fault = fault; worker = n; line = line_in program (control.Faulted fault stack) } in
+    let is : (let one : Met = record {
+      fault = fault;
+      worker = n;
+      line = line_in program (control.Faulted fault
+          stack);
+    } in
     one) ≡ m = λ i. record { fault = same i; worker = sym own i; line = sym line i } in
     (0, omega arith, is)
 

@@ -4,7 +4,8 @@ use Rattle.std.proofs.Common.{◌&&◌, ◌||◌, Option, None, Some, is_some, L
 use Rattle.std.proofs.Common.{⊎_elim, ◌⊎◌, inl, inr}
 use Rattle.std.specs.Prelude.{Contains}
 use Rattle.std.proofs.lemmas.Bool.Decides.{nat_tests, Decides-eqb}
-use Rattle.std.proofs.lemmas.List.Elements.{All-contains, Contains-append_right, Contains-append_cases, Contains-push_cases}
+use Rattle.std.proofs.lemmas.List.Elements.{All-contains, Contains-append_right, Contains-append_cases}
+use Rattle.std.proofs.lemmas.List.Elements.{Contains-push_cases}
 use Rattle.om_code.specs.declared.instruction.Instr.{Instr}
 use Rattle.om_code.specs.declared.raw.Raw.{Raw}
 use Rattle.om_foot.specs.declared.footprint.Access.{Access}
@@ -27,7 +28,8 @@ use Rattle.lab_explore_closed.specs.declared.found.Racer.{Racer}
 use Rattle.lab_explore_closed.specs.Endings.{control_at}
 use Rattle.lab_explore_closed.specs.Explored.{IsPossibleRace, pair_of_found}
 use Rattle.lab_explore_closed.specs.Races.{IsRace, Accesses, is_data, is_update, is_reduction, are_atomic_together}
-use Rattle.lab_explore_closed.specs.Races.{instruction_of, kind_number, place_at, pair_of, pair_at, is_behind, racer_at}
+use Rattle.lab_explore_closed.specs.Races.{instruction_of, kind_number, place_at, pair_of}
+use Rattle.lab_explore_closed.specs.Races.{pair_at, is_behind, racer_at}
 use Rattle.lab_explore_closed.specs.Runs.{Leads, IsEnd}
 use Rattle.lab_explore_moves.specs.declared.possible.PossibleStep.{PossibleStep}
 use Rattle.lab_explore_moves.specs.Possible.{IsPossible, ArePossible, label_of_possible}
@@ -83,7 +85,8 @@ can_be m p q x y p_is q_is can x_at y_at h =
     let u = two_true (is_data x.object) (obj_eq x.object y.object && modes_conflict x.mode y.mode) h in
     let v = two_true (obj_eq x.object y.object) (modes_conflict x.mode y.mode) u.1 in
     record {
-      others = λ is. same_not (nat_eq p.label.worker q.label.worker) t.0 ((Decides-eqb p.label.worker q.label.worker).1 is);
+      others = λ is. same_not (nat_eq p.label.worker q.label.worker) t.0 ((Decides-eqb p.label.worker
+          q.label.worker).1 is);
       first = record {
         possible = p_is.possible;
         touches = subst (λ xs. Contains xs x) p_is.accesses x_at;

@@ -26,7 +26,8 @@ use Rattle.lab_explore_closed.specs.declared.found.Pair.{Pair}
 use Rattle.lab_explore_closed.specs.declared.found.Place.{Place}
 use Rattle.lab_explore_closed.specs.declared.found.Wait.{Wait}
 use Rattle.lab_explore_closed.specs.Races.{kind_number}
-use Rattle.lab_explore_notes.specs.Same.{same_met, other_in, same_blocked, same_why, same_wait, same_ending, same_place, same_pair, is_among}
+use Rattle.lab_explore_notes.specs.Same.{same_met, other_in, same_blocked, same_why, same_wait}
+use Rattle.lab_explore_notes.specs.Same.{same_ending, same_place, same_pair, is_among}
 
 number_is : (x y : ℕ) → nat_eq x y ≡ true → x ≡ y
 number_is x y h = (Decides-eqb x y).0 h
@@ -167,7 +168,8 @@ ending_is (Sticks output ws) (Ends other printed) h = cc
 
 ending_same : (a : Ending) → same_ending a a ≡ true
 ending_same (Faults ms output) = both_true _ _ ((met_lists ms ms).1 refl) ((same_list output output).1 refl)
-ending_same (Ends value output) = both_true _ _ ((Decides-int_eq value value).1 refl) ((same_list output output).1 refl)
+ending_same (Ends value output) = both_true _ _ ((Decides-int_eq value value).1 refl) ((same_list output output).1
+    refl)
 ending_same (Sticks output ws) = both_true _ _ ((same_list output output).1 refl) ((wait_lists ws ws).1 refl)
 
 pub endings_decide : (a b : Ending) → Decides (same_ending a b) (a ≡ b)

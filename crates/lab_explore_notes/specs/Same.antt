@@ -16,7 +16,8 @@ use Rattle.lab_explore_closed.specs.declared.found.Wait.{Wait}
 use Rattle.lab_explore_closed.specs.Races.{kind_number}
 
 abbrev pub same_met : Met → Met → Bool
-same_met a b = nat_eq (fault_number a.fault) (fault_number b.fault) && (nat_eq a.worker b.worker && nat_eq a.line b.line)
+same_met a b = nat_eq (fault_number a.fault) (fault_number b.fault) && (nat_eq a.worker b.worker && nat_eq a.line
+    b.line)
 
 -- the worker that a reason names, or 0
 abbrev pub other_in : Blocked → ℕ

@@ -6,4 +6,5 @@ use Rattle.lab_explore_notes.proofs.ends.is_listed.Given as goal
 -- the answer for what is left is the answer for all
 abbrev pub invariant-loop-found : goal.invariant-loop-found
 invariant-loop-found l =
-    is_among same_ending (map ending_of_found (drop l.found-index l.ends)) l.ending ≡ is_among same_ending (map ending_of_found l.ends) l.ending
+    is_among same_ending (map ending_of_found (drop l.found-index l.ends)) l.ending ≡ is_among same_ending (map
+    ending_of_found l.ends) l.ending

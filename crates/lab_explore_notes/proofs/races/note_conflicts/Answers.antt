@@ -8,7 +8,8 @@ use Rattle.lab_explore_notes.proofs.races.note_conflicts.Goals as goal
 pub note_conflict-requires-clause-other_access : goal.note_conflict-requires-clause-other_access
 note_conflict-requires-clause-other_access c =
     let less : c.loop-access.access-index < length c.as_slice-access-items.result.now = omega arith in
-    at_place_of c.as_slice-access-items.result.now c.args.other.now.accesses c.as_slice-access-items.ensures c.loop-access.access-index c.access-item.result less
+    at_place_of c.as_slice-access-items.result.now c.args.other.now.accesses c.as_slice-access-items.ensures
+    c.loop-access.access-index c.access-item.result less
     c.access-item.is
 
 pub loop-access-preserved : goal.loop-access-preserved
@@ -24,11 +25,13 @@ loop-access-preserved c =
           (λ is. subst (λ (z : Access). IsRaceNoted c.args.machine.now c.note_conflict.new.races
           c.args.first.step.now.label c.args.other.now.label c.args.first.access.now z) is
           c.in_ok-note_conflict.ensures.noted)
-          (take_cases_of c.as_slice-access-items.result.now c.args.other.now.accesses c.as_slice-access-items.ensures i c.access-item.result y less c.access-item.is at),
+          (take_cases_of c.as_slice-access-items.result.now c.args.other.now.accesses
+          c.as_slice-access-items.ensures i c.access-item.result y less c.access-item.is at),
     )
 
 pub returns-clause-noted : goal.returns-clause-noted
 returns-clause-noted c =
     let whole : length c.as_slice-access-items.result.now ≤ c.loop-access.access-index = omega arith in
     λ y at. c.loop-access.invariant.1 y
-    (whole_of c.as_slice-access-items.result.now c.args.other.now.accesses c.as_slice-access-items.ensures c.loop-access.access-index y whole at)
+    (whole_of c.as_slice-access-items.result.now c.args.other.now.accesses c.as_slice-access-items.ensures
+    c.loop-access.access-index y whole at)

@@ -8,7 +8,8 @@ use Rattle.lab_explore_notes.proofs.races.note_meetings.Goals as goal
 pub note_conflicts-requires-clause-access : goal.note_conflicts-requires-clause-access
 note_conflicts-requires-clause-access c =
     let less : c.loop-access.access-index < length c.as_slice-access-items.result.now = omega arith in
-    at_place_of c.as_slice-access-items.result.now c.args.step.now.accesses c.as_slice-access-items.ensures c.loop-access.access-index c.access-item.result less
+    at_place_of c.as_slice-access-items.result.now c.args.step.now.accesses c.as_slice-access-items.ensures
+    c.loop-access.access-index c.access-item.result less
     c.access-item.is
 
 pub loop-access-preserved : goal.loop-access-preserved
@@ -24,11 +25,13 @@ loop-access-preserved c =
           (λ is. subst (λ (z : Access). AreConflictsNoted c.args.machine.now c.note_conflicts.new.races
           c.args.step.now.label c.args.other.now.label z c.args.other.now.accesses) is
           c.in_ok-note_conflicts.ensures.noted)
-          (take_cases_of c.as_slice-access-items.result.now c.args.step.now.accesses c.as_slice-access-items.ensures i c.access-item.result x less c.access-item.is at),
+          (take_cases_of c.as_slice-access-items.result.now c.args.step.now.accesses
+          c.as_slice-access-items.ensures i c.access-item.result x less c.access-item.is at),
     )
 
 pub returns-clause-noted : goal.returns-clause-noted
 returns-clause-noted c =
     let whole : length c.as_slice-access-items.result.now ≤ c.loop-access.access-index = omega arith in
     λ x at. c.loop-access.invariant.1 x
-    (whole_of c.as_slice-access-items.result.now c.args.step.now.accesses c.as_slice-access-items.ensures c.loop-access.access-index x whole at)
+    (whole_of c.as_slice-access-items.result.now c.args.step.now.accesses c.as_slice-access-items.ensures
+    c.loop-access.access-index x whole at)

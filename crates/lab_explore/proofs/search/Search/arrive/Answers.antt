@@ -5,7 +5,8 @@ use Rattle.lab_explore_states.specs.Sets.{seen}
 use Rattle.lab_explore.specs.declared.search.Search.{Search}
 use Rattle.lab_explore.specs.Acts.{Act, act_of}
 use Rattle.lab_explore.specs.Searches.{acts_of, IsSearch}
-use Rattle.lab_explore.proofs.SearchLemmas.{inserted_past, was_there, arrives_old, arrives_new, made_known, made_back}
+use Rattle.lab_explore.proofs.SearchLemmas.{made_known, made_back}
+use Rattle.lab_explore.proofs.NextLemmas.{inserted_past, was_there, arrives_old, arrives_new}
 use Rattle.lab_explore.proofs.WayLemmas.{IsOneMore, one_more_made}
 use Rattle.lab_explore.proofs.search.Search.arrive.Goals as goal
 
@@ -13,7 +14,8 @@ pub undo_last-requires-clause-past : goal.undo_last-requires-clause-past
 undo_last-requires-clause-past c = (
   (seen c.args.self.now.stored).at,
   (seen c.args.self.now.stored).past,
-  inserted_past c.args.self.now.machine.program c.args.self.now.machine.workers c.in_ok-is_new.is_new (seen c.take.new.self)
+  inserted_past c.args.self.now.machine.program c.args.self.now.machine.workers c.in_ok-is_new.is_new (seen
+      c.take.new.self)
       (seen c.insert.new.self) (seen c.args.self.now.stored) (state_in c.take.new.machine) c.in_ok-take.ensures.follows
       c.in_ok-is_new.ensures.inserted,
 )
@@ -28,7 +30,8 @@ returns-then-not-is_new-clause-arrives c =
     let more : IsOneMore x.machine l m =
     subst (λ n. IsOneMore x.machine l n) (sym c.in_ok-take.ensures.made)
     (one_more_made x.machine l c.requires.possible) in
-    let there = was_there x.machine.program x.machine.workers c.in_ok-is_new.is_new (seen c.take.new.self) (seen c.insert.new.self)
+    let there = was_there x.machine.program x.machine.workers c.in_ok-is_new.is_new (seen c.take.new.self) (seen
+    c.insert.new.self)
     c.in_ok-is_new.ensures.inserted old in
     arrives_old x.machine.program x.machine.workers l c.in_ok-is_new.is_new y old
     (subst (λ (more : List Act). IsSearch x.machine.program x.machine.workers more y)

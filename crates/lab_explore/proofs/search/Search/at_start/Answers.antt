@@ -2,7 +2,7 @@ use Rattle.std.proofs.Common.{◌∙◌, ap}
 use Rattle.om_undo.specs.Machines.{MachineView}
 use Rattle.lab_explore_states.specs.Sets.{at_the_start, seen}
 use Rattle.lab_explore.specs.declared.search.Search.{Search}
-use Rattle.lab_explore.proofs.SearchLemmas.{begun}
+use Rattle.lab_explore.proofs.BeginLemmas.{begun}
 use Rattle.lab_explore.proofs.search.Search.at_start.Goals as goal
 
 pub returns-clause-arrived : goal.returns-clause-arrived
@@ -15,5 +15,6 @@ returns-clause-arrived c =
       steps = 0;
     } in
     begun c.args.program c.args.workers x (seen c.new-stored.result) c.in_ok-insert.field-0 c.in_ok-machine.ensures
-    (c.new-stored.ensures ∙ ap (λ (m : MachineView). at_the_start m.program m.workers) c.in_ok-machine.ensures) c.in_ok-insert.ensures.inserted c.new-2.ensures
+    (c.new-stored.ensures ∙ ap (λ (m : MachineView). at_the_start m.program m.workers) c.in_ok-machine.ensures)
+    c.in_ok-insert.ensures.inserted c.new-2.ensures
     c.new-3.ensures

@@ -5,7 +5,7 @@ use Rattle.lab_explore.specs.declared.search.Search.{Search}
 use Rattle.lab_explore.specs.declared.todo.Todo.{Todo}
 use Rattle.lab_explore.specs.Acts.{Act, Back, act_of}
 use Rattle.lab_explore.specs.Searches.{acts_of, HasArrived}
-use Rattle.lab_explore.proofs.SearchLemmas.{has_arrived, arrived_but}
+use Rattle.lab_explore.proofs.NextLemmas.{has_arrived, arrived_but}
 use Rattle.lab_explore.proofs.search.Search.go.Goals as goal
 
 pub look_around-requires : goal.look_around-requires

@@ -6,7 +6,8 @@ use Rattle.lab_explore.specs.declared.todo.Todo.{Todo}
 use Rattle.lab_explore.specs.declared.todo.Todo.TheVariants as todo
 use Rattle.lab_explore.specs.Acts.{Act, Try, Back, act_of}
 use Rattle.lab_explore.specs.Searches.{acts_of, IsSearch}
-use Rattle.lab_explore.proofs.SearchLemmas.{search_but, complete, popped, none_popped}
+use Rattle.lab_explore.proofs.SearchLemmas.{complete}
+use Rattle.lab_explore.proofs.NextLemmas.{search_but, popped, none_popped}
 use Rattle.lab_explore.proofs.search.Search.turn.Goals as goal
 
 pub back-requires : goal.back-requires
