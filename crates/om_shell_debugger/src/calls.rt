@@ -23,7 +23,7 @@ use std::alloc::{AllocError, Global};
 const SEAT: u8 = 0;
 
 /// Does what a command asks. What it was answered is told by the book. Its only error is out of memory.
-pub(crate) fn call(alloc: Global, book: &mut Book, command: &Command) -> AllocResult<()>
+pub fn call(alloc: Global, book: &mut Book, command: &Command) -> AllocResult<()>
     requires in_range { IsInRange book.old.start.workers command.now }
     requires room { records_of book.old < 200000 }
     ensures { OnOk result (book.new ≡ with_debugger_call book.old command.now) }
@@ -38,7 +38,7 @@ pub(crate) fn call(alloc: Global, book: &mut Book, command: &Command) -> AllocRe
 }
 
 /// Takes a worker's last step back. What it was answered is told by the book. Its only error is out of memory.
-pub(crate) fn undo(alloc: Global, book: &mut Book, worker: u8) -> AllocResult<()>
+pub fn undo(alloc: Global, book: &mut Book, worker: u8) -> AllocResult<()>
     requires in_range { worker < book.old.start.workers }
     requires room { records_of book.old < 200000 }
     ensures { OnOk result (book.new ≡ with_debugger_call book.old (Command.Undo worker)) }
@@ -52,8 +52,8 @@ pub(crate) fn undo(alloc: Global, book: &mut Book, worker: u8) -> AllocResult<()
     }
 }
 
-/// Takes a step that was planned where the book stands.
-pub(crate) fn take(alloc: Global, book: &mut Book, step: PlannedStep) -> AllocResult<StepReply>
+/// Takes a step that was planned where the book stands, and answers its reply. Its only error is out of memory.
+pub fn take(alloc: Global, book: &mut Book, step: PlannedStep) -> AllocResult<StepReply>
     requires planned { step.machine ≡ machine_of book.old }
     requires room { records_of book.old < 200000 }
     ensures reply { IfOk result
@@ -67,13 +67,8 @@ pub(crate) fn take(alloc: Global, book: &mut Book, step: PlannedStep) -> AllocRe
     }
 }
 
-/// Takes a worker's step.
-pub(crate) fn step(
-    alloc: Global,
-    book: &mut Book,
-    worker: u8,
-    choice: &Choice,
-) -> AllocResult<StepReply>
+/// Takes a worker's step by a choice, and answers its reply. Its only error is out of memory.
+pub fn step(alloc: Global, book: &mut Book, worker: u8, choice: &Choice) -> AllocResult<StepReply>
     requires in_range { worker < book.old.start.workers }
     requires room { records_of book.old < 200000 }
     ensures reply { IfOk result (λ reply. reply ≡ step_reply_at book.old worker choice.now) }
@@ -104,7 +99,7 @@ fn other_told(book: &Book) -> &Reply
 }
 
 /// What the last call was answered, which was a worker's undo.
-pub(crate) fn undo_told(book: &Book) -> &KeptUndoReply
+pub fn undo_told(book: &Book) -> &KeptUndoReply
     requires { (b : BookView) × (worker : ℕ) × (book.now ≡ with_debugger_call b (Command.Undo worker)) }
     ensures { IsUndoTold result.now book.now }
 {
@@ -120,7 +115,7 @@ pub(crate) fn undo_told(book: &Book) -> &KeptUndoReply
 }
 
 /// What the last call was answered, which was a roll.
-pub(crate) fn roll_told(book: &Book) -> &RollReply
+pub fn roll_told(book: &Book) -> &RollReply
     requires { (b : BookView) × (serial : ℕ) × (book.now ≡ with_debugger_call b (Command.Roll serial)) }
     ensures { IsRollTold result.now book.now }
 {

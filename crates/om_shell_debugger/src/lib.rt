@@ -9,17 +9,19 @@
 //! - `marks` keeps breaks and watches. `cell_of` finds the cell of a global variable, and `worker_sees` the
 //!   one that a worker sees by a name.
 //!
+//! Whoever moves a book in another way than by lines of commands calls `calls`, `moves`, `runs` and `stops`.
+//!
 //! Cases: the sessions of gate_cases.
 #![tactic(auto)]
 
-mod calls;
+pub mod calls;
 mod debugger;
-mod local;
+pub mod local;
 mod looks;
 mod marks;
-mod moves;
-mod runs;
-mod stops;
+pub mod moves;
+pub mod runs;
+pub mod stops;
 
 pub use debugger::Debugger;
 pub use marks::Marks;

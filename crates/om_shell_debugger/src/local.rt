@@ -49,16 +49,16 @@ pub(crate) fn cell_at(variable: u32, length: Option<u32>, index: Option<u64>) ->
 
 /// The cell that a variable names; `None` exactly where the program has no such global, or where
 /// an index is missing, one too many or out of range.
-pub(crate) fn cell_of(program: &Program, variable: &Variable) -> Option<GlobalCell>
+pub fn cell_of(program: &Program, variable: &Variable) -> Option<GlobalCell>
     ensures { result ≡ cell_of program.now variable.now }
 {
     let number = global_named(program, variable.name.as_slice())?;
     cell_at(number, length_of(program, number), variable.index)
 }
 
-/// What a worker sees by the name of a variable.
+/// What a worker sees by the name of a variable, at its next instruction.
 #[derive(Clone, Copy)]
-pub(crate) enum Seen {
+pub enum Seen {
     /// This cell of a global variable.
     Global(GlobalCell),
     /// This cell of a variable of a function.
@@ -121,8 +121,8 @@ fn seen_by(program: &Program, variable: &Variable, control: &Control) -> Seen
     }
 }
 
-/// What a worker sees by the name of a variable.
-pub(crate) fn worker_sees(machine: &Machine, worker: u8, variable: &Variable) -> Seen
+/// What a worker sees by the name of a variable, at its next instruction. It takes no memory.
+pub fn worker_sees(machine: &Machine, worker: u8, variable: &Variable) -> Seen
     ensures { result ≡ worker_sees machine.now worker variable.now }
 {
     match machine.control(worker) {

@@ -47,21 +47,16 @@ fn step_by(
     push_step(text, worker, reply)
 }
 
-/// Answers `step W`.
-pub(crate) fn step(
-    alloc: Global,
-    book: &mut Book,
-    worker: u8,
-    text: &mut Vec<u8>,
-) -> AllocResult<()>
+/// Appends the answer to `step W`. The only error is out of memory.
+pub fn step(alloc: Global, book: &mut Book, worker: u8, text: &mut Vec<u8>) -> AllocResult<()>
     requires { worker < book.old.start.workers }
     ensures { OnOk result (Says (step_said worker Next book.old) text.old text.new book.new) }
 {
     step_by(alloc, book, worker, &Choice::Next, text)
 }
 
-/// Answers `start W NAME`. It stands apart, as names are large.
-pub(crate) fn start(
+/// Appends the answer to `start W NAME`. The only error is out of memory. It stands apart, as names are large.
+pub fn start(
     alloc: Global,
     book: &mut Book,
     worker: u8,
@@ -101,13 +96,8 @@ fn push_kept(
     }
 }
 
-/// Answers `undo W`.
-pub(crate) fn undo(
-    alloc: Global,
-    book: &mut Book,
-    worker: u8,
-    text: &mut Vec<u8>,
-) -> AllocResult<()>
+/// Appends the answer to `undo W`. The only error is out of memory.
+pub fn undo(alloc: Global, book: &mut Book, worker: u8, text: &mut Vec<u8>) -> AllocResult<()>
     requires { worker < book.old.start.workers }
     ensures { OnOk result (Says (undo_said worker book.old) text.old text.new book.new) }
 {
@@ -187,13 +177,8 @@ fn next_within(
     }
 }
 
-/// Answers `next W`.
-pub(crate) fn next(
-    alloc: Global,
-    book: &mut Book,
-    worker: u8,
-    text: &mut Vec<u8>,
-) -> AllocResult<()>
+/// Appends the answer to `next W`. The only error is out of memory.
+pub fn next(alloc: Global, book: &mut Book, worker: u8, text: &mut Vec<u8>) -> AllocResult<()>
     requires { worker < book.old.start.workers }
     ensures { OnOk result (Says (next_said 9999 worker book.old) text.old text.new book.new) }
 {
@@ -226,13 +211,8 @@ fn back_within(
     }
 }
 
-/// Answers `back W`.
-pub(crate) fn back(
-    alloc: Global,
-    book: &mut Book,
-    worker: u8,
-    text: &mut Vec<u8>,
-) -> AllocResult<()>
+/// Appends the answer to `back W`. The only error is out of memory.
+pub fn back(alloc: Global, book: &mut Book, worker: u8, text: &mut Vec<u8>) -> AllocResult<()>
     requires { worker < book.old.start.workers }
     ensures { OnOk result (Says (back_said 9999 worker book.old) text.old text.new book.new) }
 {
@@ -240,13 +220,8 @@ pub(crate) fn back(
     back_within(alloc, book, Stay { worker, line }, MOST_FURTHER, text)
 }
 
-/// Answers `roll S`.
-pub(crate) fn roll(
-    alloc: Global,
-    book: &mut Book,
-    serial: u64,
-    text: &mut Vec<u8>,
-) -> AllocResult<()>
+/// Appends the answer to `roll S`. The only error is out of memory.
+pub fn roll(alloc: Global, book: &mut Book, serial: u64, text: &mut Vec<u8>) -> AllocResult<()>
     ensures { OnOk result (Says (roll_said serial book.old) text.old text.new book.new) }
 {
     if book.is_full() {

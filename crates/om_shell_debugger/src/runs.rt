@@ -65,8 +65,9 @@ fn first_start(alloc: Global, machine: &Machine, worker: u8) -> AllocResult<Opti
     Ok(None)
 }
 
-// A worker's move: its next step, else the start of the least task that it can begin.
-fn move_of(alloc: Global, machine: &Machine, worker: u8) -> AllocResult<Option<PlannedStep>>
+/// A worker's move, planned and not made: its next step, else the start of the least task that it can
+/// begin; `None` where it has none. The only error is out of memory.
+pub fn move_of(alloc: Global, machine: &Machine, worker: u8) -> AllocResult<Option<PlannedStep>>
     requires { worker < machine.now.workers }
     ensures { IfOk result (λ step. step ≡ planned_of machine.now worker) }
 {
@@ -94,8 +95,9 @@ fn move_among(alloc: Global, machine: &Machine, last: u8) -> AllocResult<Option<
     Ok(None)
 }
 
-// The move of the least worker that has one.
-fn first_move(alloc: Global, machine: &Machine) -> AllocResult<Option<PlannedStep>>
+/// The move of the least worker that has one, planned and not made; `None` where no worker has one. The
+/// only error is out of memory.
+pub fn first_move(alloc: Global, machine: &Machine) -> AllocResult<Option<PlannedStep>>
     ensures moved { IfOk result (λ step. step ≡ planned_move machine.now (first_move machine.now)) }
     ensures in_range { IfOk result (λ step. IfSome step (IsOfWorkerBelow machine.now.workers)) }
 {
@@ -114,8 +116,8 @@ fn has_ended(control: Option<&Control>) -> bool
     }
 }
 
-// Why a run stops where no worker has a move.
-fn stop_without_move(machine: &Machine) -> Stop
+/// Why a run stops where no worker has a move: the program has ended, or is stuck.
+pub fn stop_without_move(machine: &Machine) -> Stop
     ensures { result ≡ stop_without_move machine.now }
 {
     if has_ended(machine.control(0)) {
@@ -175,8 +177,8 @@ fn advance(alloc: Global, book: &mut Book, marks: &Marks) -> AllocResult<Moved>
     }
 }
 
-/// Answers `run K`.
-pub(crate) fn run(
+/// Appends the answer to `run K`. The only error is out of memory.
+pub fn run(
     alloc: Global,
     book: &mut Book,
     marks: &Marks,

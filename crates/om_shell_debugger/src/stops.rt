@@ -122,8 +122,9 @@ fn or_else(first: Option<Stop>, second: Option<Stop>) -> Option<Stop>
     }
 }
 
-/// Takes a step that was planned where the book stands, and answers why a run stops after it, if it does.
-pub(crate) fn step_and_stop(
+/// Takes a step that was planned where the book stands, and answers why a run stops after it, if it does. The
+/// only error is out of memory.
+pub fn step_and_stop(
     alloc: Global,
     book: &mut Book,
     marks: &Marks,
