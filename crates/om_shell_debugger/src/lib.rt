@@ -24,4 +24,4 @@ pub mod runs;
 pub mod stops;
 
 pub use debugger::Debugger;
-pub use marks::Marks;
+pub use marks::{Marks, has_line};

@@ -18,7 +18,7 @@ pub struct Marks {
 }
 
 /// Whether a line is among these.
-pub(crate) fn has_line(lines: &[u64], line: u64) -> bool
+pub fn has_line(lines: &[u64], line: u64) -> bool
     ensures { result ≡ has_line lines.now line }
 {
     for other in lines {

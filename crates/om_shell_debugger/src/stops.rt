@@ -73,15 +73,15 @@ fn value_of(alloc: Global, machine: &Machine, cell: GlobalCell) -> AllocResult<C
     Ok(held)
 }
 
-// A watched cell, and what it held before a step.
+/// A watched cell, and what it held before a step.
 #[derive(Clone, Copy)]
-struct Watched {
-    cell: GlobalCell,
-    held: Cell,
+pub struct Watched {
+    pub cell: GlobalCell,
+    pub held: Cell,
 }
 
-// Cells, each with what it holds.
-fn held_by(alloc: Global, machine: &Machine, cells: &[GlobalCell]) -> AllocResult<Vec<Watched>>
+/// Cells, each with what it holds. The only error is out of memory.
+pub fn held_by(alloc: Global, machine: &Machine, cells: &[GlobalCell]) -> AllocResult<Vec<Watched>>
     ensures { IfOk result (λ all. all.items ≡ map (watched (state_in machine.now)) cells.now) }
 {
     let mut all = Vec::new(alloc);
@@ -92,8 +92,9 @@ fn held_by(alloc: Global, machine: &Machine, cells: &[GlobalCell]) -> AllocResul
     Ok(all)
 }
 
-// The first cell that no longer holds what it held.
-fn watch_stop(
+/// The stop of a worker at the first cell that no longer holds what it held, if there is one. The only error is
+/// out of memory.
+pub fn watch_stop(
     alloc: Global,
     machine: &Machine,
     all: &[Watched],
