@@ -16,6 +16,7 @@ use Rattle.om_foot.specs.declared.object.SlotName.{SlotName}
 use Rattle.om_team_serial.specs.Objects.{home_at, slot_in}
 use Rattle.lab_dap_looks.specs.declared.variables.Storage.{Storage}
 use Rattle.lab_dap_looks.specs.declared.variables.Storage.TheVariants as storage
+use Rattle.lab_dap_looks.specs.declared.variables.NamedVariable.{NamedVariable}
 use Rattle.lab_dap_looks.specs.declared.variables.VariableAt.{VariableAt}
 use Rattle.lab_dap_looks.specs.Frames.{FrameView}
 
@@ -24,14 +25,13 @@ abbrev pub cell_in : Storage → ℕ → Obj
 cell_in (storage.Global variable) index = object.Global variable index
 cell_in (storage.Slot slot) index = slots.cell_at slot index
 
--- a name, how many elements the variable has where it is an array, and where its cells lie
-pub record VariableView : Type 0 where
+-- a variable with its name
+pub record NamedView : Type 0 where
   pub name : List ℕ
-  pub length : Option ℕ
-  pub storage : Storage
+  pub variable : VariableAt
 
-abbrev pub shown : VariableAt → VariableView
-shown v = record { name = v.name.now; length = v.length; storage = v.storage }
+abbrev pub shown : NamedVariable → NamedView
+shown n = record { name = n.name.now; variable = n.variable }
 
 -- ---- one name
 
@@ -39,59 +39,58 @@ shown v = record { name = v.name.now; length = v.length; storage = v.storage }
 abbrev pub slot_of : FrameView → ℕ → SlotName
 slot_of f slot = slot_in f.context.task f.frame.ordinal slot (home_at f.frame.homes slot)
 
-abbrev pub local_of : FrameView → List ℕ → ℕ → Option ℕ → VariableView
-local_of f name slot length = record { name = name; length = length; storage = storage.Slot (slot_of f slot) }
-
-abbrev pub variable_of : GlobalVariable → ℕ → VariableView
-variable_of global number =
-    record { name = global.name; length = global.length; storage = storage.Global number }
+abbrev pub local_of : FrameView → ℕ → Option ℕ → VariableAt
+local_of f slot length = record { length = length; storage = storage.Slot (slot_of f slot) }
 
 -- how many elements a global variable has, where it is an array
 abbrev pub length_of : Raw → ℕ → Option ℕ
 length_of raw number = option_and_then (λ (global : GlobalVariable). global.length) (slice_get raw.globals number)
 
-abbrev pub global_at : Raw → List ℕ → ℕ → VariableView
-global_at raw name number =
-    record { name = name; length = length_of raw number; storage = storage.Global number }
+abbrev pub global_at : Raw → ℕ → VariableAt
+global_at raw number = record { length = length_of raw number; storage = storage.Global number }
 
 -- the global variable of a name
-abbrev pub global_named : Raw → List ℕ → Option VariableView
-global_named raw name = option_map (global_at raw name) (places.global_named raw name)
+abbrev pub global_named : Raw → List ℕ → Option VariableAt
+global_named raw name = option_map (global_at raw) (places.global_named raw name)
 
 -- the variable that a name means
-abbrev pub variable_by : Raw → FrameView → List ℕ → Option Var → Option VariableView
-variable_by raw f name None = None
-variable_by raw f name (Some (var.Global number)) = Some (global_at raw name number)
-variable_by raw f name (Some (var.Slot slot length)) = Some (local_of f name slot length)
+abbrev pub variable_by : Raw → FrameView → Option Var → Option VariableAt
+variable_by raw f None = None
+variable_by raw f (Some (var.Global number)) = Some (global_at raw number)
+variable_by raw f (Some (var.Slot slot length)) = Some (local_of f slot length)
 
--- the variable that a name means where a frame stands
-abbrev pub variable_named : Raw → FrameView → List ℕ → Option VariableView
-variable_named raw f name = variable_by raw f name (places.variable_at raw f.frame.body f.at name)
+-- what a name means where a frame stands
+abbrev pub meant_at : Raw → FrameView → List ℕ → Option Var
+meant_at raw f name = places.variable_at raw f.frame.body f.at name
+
+abbrev pub variable_named : Raw → FrameView → List ℕ → Option VariableAt
+variable_named raw f name = variable_by raw f (meant_at raw f name)
 
 -- the same where it is a variable of the function
-abbrev pub local_by : FrameView → List ℕ → Option Var → Option VariableView
-local_by f name None = None
-local_by f name (Some (var.Global number)) = None
-local_by f name (Some (var.Slot slot length)) = Some (local_of f name slot length)
+abbrev pub local_by : FrameView → Option Var → Option VariableAt
+local_by f None = None
+local_by f (Some (var.Global number)) = None
+local_by f (Some (var.Slot slot length)) = Some (local_of f slot length)
 
-abbrev pub local_named : Raw → FrameView → List ℕ → Option VariableView
-local_named raw f name = local_by f name (places.variable_at raw f.frame.body f.at name)
+abbrev pub local_named : Raw → FrameView → List ℕ → Option VariableAt
+local_named raw f name = local_by f (meant_at raw f name)
 
 -- ---- all names
 
-abbrev pub has_name : List VariableView → List ℕ → Bool
+abbrev pub has_name : List NamedView → List ℕ → Bool
 has_name [] name = false
 has_name (v ∷ vs) name = cond (bytes_eq v.name name) true (has_name vs name)
 
-abbrev pub with_variable : List VariableView → Option VariableView → List VariableView
-with_variable found None = found
-with_variable found (Some v) = found ++ v ∷ []
+abbrev pub with_variable : List NamedView → List ℕ → Option VariableAt → List NamedView
+with_variable found name None = found
+with_variable found name (Some v) = found ++ record { name = name; variable = v } ∷ []
 
 -- what a name means is found once
-abbrev pub with_name : Raw → FrameView → List VariableView → List ℕ → List VariableView
-with_name raw f found name = cond (has_name found name) found (with_variable found (local_named raw f name))
+abbrev pub with_name : Raw → FrameView → List NamedView → List ℕ → List NamedView
+with_name raw f found name =
+    cond (has_name found name) found (with_variable found name (local_named raw f name))
 
-abbrev pub with_scopes : Raw → FrameView → List VariableView → List Scope → List VariableView
+abbrev pub with_scopes : Raw → FrameView → List NamedView → List Scope → List NamedView
 with_scopes raw f found [] = found
 with_scopes raw f found (scope ∷ scopes) = with_scopes raw f (with_name raw f found scope.name) scopes
 
@@ -100,19 +99,26 @@ scopes_of None = []
 scopes_of (Some body) = body.names.scopes
 
 -- what the names of the scopes of so many bodies mean, from the last of these bodies down
-abbrev pub with_bodies : Raw → FrameView → List VariableView → ℕ → List VariableView
+abbrev pub with_bodies : Raw → FrameView → List NamedView → ℕ → List NamedView
 with_bodies raw f found zero = found
 with_bodies raw f found (suc k) =
     with_bodies raw f (with_scopes raw f found (scopes_of (slice_get raw.bodies k))) k
 
 -- the variables of the function that names mean where a frame stands: a region stands in a body of a lower number
-abbrev pub variables_of : Raw → FrameView → List VariableView
+abbrev pub variables_of : Raw → FrameView → List NamedView
 variables_of raw f = with_bodies raw f [] (f.frame.body + 1)
 
--- the global variables, from this number on
-abbrev pub globals_from : List GlobalVariable → ℕ → List VariableView
-globals_from [] number = []
-globals_from (global ∷ globals) number = variable_of global number ∷ globals_from globals (number + 1)
+-- the global variable of a number, with its name
+abbrev pub named_global : GlobalVariable → ℕ → NamedView
+named_global global number = record {
+  name = global.name;
+  variable = record { length = global.length; storage = storage.Global number };
+}
 
-abbrev pub globals_of : Raw → List VariableView
+-- the global variables, from this number on
+abbrev pub globals_from : List GlobalVariable → ℕ → List NamedView
+globals_from [] number = []
+globals_from (global ∷ globals) number = named_global global number ∷ globals_from globals (number + 1)
+
+abbrev pub globals_of : Raw → List NamedView
 globals_of raw = globals_from raw.globals 0

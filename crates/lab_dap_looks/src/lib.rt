@@ -17,4 +17,6 @@ pub use cells::{cell_at, cells_of};
 pub use frames::{FrameAt, frames_of};
 pub use lines::{first_line, function_of, lines_of};
 pub use locks::{HeldLock, lock_name, locks_held};
-pub use variables::{Storage, VariableAt, global_named, globals_of, variable_named, variables_of};
+pub use variables::{
+    NamedVariable, Storage, VariableAt, global_named, globals_of, variable_named, variables_of,
+};

@@ -1,18 +1,16 @@
 //! The variables that a frame sees, and where their cells lie.
 
-ghost use Rattle.std.specs.Prelude.{◌≡◌, [], IfOk, OnOk, map, option_map, slice_get};
-ghost use Rattle.om_code_places.specs.Visible as places;
-ghost use Rattle.om_memory.specs.Plain.{plain_context, plain_frame};
-ghost use Rattle.om_team_serial.specs.Objects.{slot_in, home_at};
+ghost use Rattle.std.specs.Prelude.{◌≡◌, IfOk, OnOk, map, slice_get};
 ghost use Rattle.lab_dap_looks.specs.Frames.{seen};
-ghost use Rattle.lab_dap_looks.specs.Variables.{cell_in, global_at, global_named, globals_of, has_name, local_named, local_of, scopes_of, shown, slot_of, variable_named, variable_of, variables_of, with_bodies, with_name, with_scopes};
+ghost use Rattle.lab_dap_looks.specs.Variables.{cell_in, global_at, global_named, globals_of, has_name, length_of, local_named, local_of, meant_at, named_global, scopes_of, shown, slot_of, variable_named, variables_of, with_bodies, with_name, with_scopes};
+ghost use Rattle.lab_dap_looks.specs.Visible.{AreVisible};
 
 use crate::frames::FrameAt;
 use om_code::Program;
 use om_code::raw::{GlobalVariable, Scope};
 use om_code_places::{Var, variable_at};
 use om_foot::{Obj, SlotName};
-use om_seq::AllocResult;
+use om_seq::{AllocResult, Seq};
 use om_state::Home;
 use std::alloc::Global;
 
@@ -40,14 +38,19 @@ impl Storage {
     }
 }
 
-/// A variable that a name means.
+/// A variable: how many elements it has, and where its cells lie.
 #[derive(Clone, Copy)]
-pub struct VariableAt<'n> {
-    /// The bytes of its name.
-    pub name: &'n [u8],
+pub struct VariableAt {
     /// How many elements it has, where it is an array; `None` for a scalar.
     pub length: Option<u32>,
     pub storage: Storage,
+}
+
+/// A variable with the bytes of its name.
+#[derive(Clone, Copy)]
+pub struct NamedVariable<'m> {
+    pub name: &'m Seq<u8>,
+    pub variable: VariableAt,
 }
 
 // The slot in which the cells of a frame's slot lie.
@@ -69,76 +72,75 @@ fn slot_of(frame: &FrameAt<'_>, slot: u32) -> SlotName
 }
 
 // The variable of a frame's slot.
-fn local_of<'n>(
-    frame: &FrameAt<'_>,
-    name: &'n [u8],
-    slot: u32,
-    length: Option<u32>,
-) -> VariableAt<'n>
-    ensures { shown result ≡ local_of (seen frame.now) name.now slot length }
+fn local_of(frame: &FrameAt<'_>, slot: u32, length: Option<u32>) -> VariableAt
+    ensures { result ≡ local_of (seen frame.now) slot length }
 {
     VariableAt {
-        name,
         length,
         storage: Storage::Slot(slot_of(frame, slot)),
     }
 }
 
-// The global variable of a number.
-fn global_at<'n>(program: &Program, name: &'n [u8], number: u32) -> VariableAt<'n>
-    ensures { shown result ≡ global_at program.now name.now number }
+// How many elements the global variable of a number has, where it is an array.
+fn length_of(program: &Program, number: u32) -> Option<u32>
+    ensures { result ≡ length_of program.now number }
 {
-    let length = match program.globals().get(number as usize) {
-        Some(global) => global.length,
-        None => None,
-    };
+    program.globals().get(number as usize)?.length
+}
+
+// The global variable of a number.
+fn global_at(program: &Program, number: u32) -> VariableAt
+    ensures { result ≡ global_at program.now number }
+{
     VariableAt {
-        name,
-        length,
+        length: length_of(program, number),
         storage: Storage::Global(number),
     }
 }
 
 /// The global variable of a name; `None` exactly where there is none.
-pub fn global_named<'n>(program: &Program, name: &'n [u8]) -> Option<VariableAt<'n>>
-    ensures { option_map shown result ≡ global_named program.now name.now }
+pub fn global_named(program: &Program, name: &[u8]) -> Option<VariableAt>
+    ensures { result ≡ global_named program.now name.now }
 {
     let number = om_code_places::global_named(program, name)?;
-    Some(global_at(program, name, number))
+    Some(global_at(program, number))
+}
+
+// What a name means where a frame stands.
+fn meant_at(program: &Program, frame: &FrameAt<'_>, name: &[u8]) -> Option<Var>
+    ensures { result ≡ meant_at program.now (seen frame.now) name.now }
+{
+    variable_at(program, frame.frame.body, frame.at, name)
 }
 
 /// The variable that a name means where a frame stands (C17 6.2.1p4): the innermost one in scope there, else
 /// the global one. `None` where there is none, and where the body of a region has no slot for it, since no part
 /// of the region uses it.
-pub fn variable_named<'n>(
-    program: &Program,
-    frame: &FrameAt<'_>,
-    name: &'n [u8],
-) -> Option<VariableAt<'n>>
-    ensures { option_map shown result ≡ variable_named program.now (seen frame.now) name.now }
+pub fn variable_named(program: &Program, frame: &FrameAt<'_>, name: &[u8]) -> Option<VariableAt>
+    ensures { result ≡ variable_named program.now (seen frame.now) name.now }
 {
-    match variable_at(program, frame.frame.body, frame.at, name)? {
-        Var::Global(number) => Some(global_at(program, name, number)),
-        Var::Slot { slot, length } => Some(local_of(frame, name, slot, length)),
+    match meant_at(program, frame, name)? {
+        Var::Global(number) => Some(global_at(program, number)),
+        Var::Slot { slot, length } => Some(local_of(frame, slot, length)),
     }
 }
 
 // The variable of the function that a name means where a frame stands, if it means one.
-fn local_named<'n>(program: &Program, frame: &FrameAt<'_>, name: &'n [u8]) -> Option<VariableAt<'n>>
-    ensures { option_map shown result ≡ local_named program.now (seen frame.now) name.now }
+fn local_named(program: &Program, frame: &FrameAt<'_>, name: &[u8]) -> Option<VariableAt>
+    ensures { result ≡ local_named program.now (seen frame.now) name.now }
 {
-    match variable_at(program, frame.frame.body, frame.at, name)? {
+    match meant_at(program, frame, name)? {
         Var::Global(_) => None,
-        Var::Slot { slot, length } => Some(local_of(frame, name, slot, length)),
+        Var::Slot { slot, length } => Some(local_of(frame, slot, length)),
     }
 }
 
 // Whether one of these variables has this name.
-fn has_name(found: &[VariableAt<'_>], name: &[u8]) -> bool
+fn has_name(found: &[NamedVariable<'_>], name: &[u8]) -> bool
     ensures { result ≡ has_name (map shown found.now) name.now }
 {
     for other in found {
-        if other.name == name {
+        if other.name.as_slice() == name {
             return true;
         }
     }
@@ -147,37 +149,37 @@ fn has_name(found: &[VariableAt<'_>], name: &[u8]) -> bool
 
 // Appends the variable of the function that a name means where a frame stands, if it means one and none of that
 // name is there.
-fn push_local<'n>(
-    found: &mut Vec<VariableAt<'n>>,
+fn push_local<'m>(
+    found: &mut Vec<NamedVariable<'m>>,
     program: &Program,
     frame: &FrameAt<'_>,
-    name: &'n [u8],
+    name: &'m Seq<u8>,
 ) -> AllocResult<()>
     ensures { OnOk result (map shown found.new.items
         ≡ with_name program.now (seen frame.now) (map shown found.old.items) name.now) }
 {
-    if has_name(found.as_slice(), name) {
+    if has_name(found.as_slice(), name.as_slice()) {
         return Ok(());
     }
-    let Some(variable) = local_named(program, frame, name) else {
+    let Some(variable) = local_named(program, frame, name.as_slice()) else {
         return Ok(());
     };
-    found.push(variable)?;
+    found.push(NamedVariable { name, variable })?;
     Ok(())
 }
 
 // Appends those of the names of scopes.
-fn push_scopes<'n>(
-    found: &mut Vec<VariableAt<'n>>,
+fn push_scopes<'m>(
+    found: &mut Vec<NamedVariable<'m>>,
     program: &Program,
     frame: &FrameAt<'_>,
-    scopes: &'n [Scope],
+    scopes: &'m [Scope],
 ) -> AllocResult<()>
     ensures { OnOk result (map shown found.new.items
         ≡ with_scopes program.now (seen frame.now) (map shown found.old.items) scopes.now) }
 {
     for scope in scopes {
-        push_local(found, program, frame, scope.name.as_slice())?;
+        push_local(found, program, frame, &scope.name)?;
     }
     Ok(())
 }
@@ -199,9 +201,11 @@ pub fn variables_of<'m>(
     alloc: Global,
     program: &'m Program,
     frame: &FrameAt<'_>,
-) -> AllocResult<Vec<VariableAt<'m>>>
-    ensures { IfOk result
+) -> AllocResult<Vec<NamedVariable<'m>>>
+    ensures found { IfOk result
         (λ found. map shown found.items ≡ variables_of program.now (seen frame.now)) }
+    ensures visible { IfOk result
+        (λ found. AreVisible program.now (seen frame.now) (map shown found.items)) }
 {
     let mut found = Vec::new(alloc);
     let mut below = frame.frame.body as usize + 1;
@@ -212,25 +216,27 @@ pub fn variables_of<'m>(
     Ok(found)
 }
 
-// The variable that a global one of a number is.
-fn variable_of(global: &GlobalVariable, number: u32) -> VariableAt<'_>
-    ensures { shown result ≡ variable_of global.now number }
+// The global variable of a number, with its name.
+fn named_global(global: &GlobalVariable, number: u32) -> NamedVariable<'_>
+    ensures { shown result ≡ named_global global.now number }
 {
-    VariableAt {
-        name: global.name.as_slice(),
-        length: global.length,
-        storage: Storage::Global(number),
+    NamedVariable {
+        name: &global.name,
+        variable: VariableAt {
+            length: global.length,
+            storage: Storage::Global(number),
+        },
     }
 }
 
 /// The global variables of a program, by their numbers. The only error is out of memory.
-pub fn globals_of<'m>(alloc: Global, program: &'m Program) -> AllocResult<Vec<VariableAt<'m>>>
+pub fn globals_of(alloc: Global, program: &Program) -> AllocResult<Vec<NamedVariable<'_>>>
     ensures { IfOk result (λ all. map shown all.items ≡ globals_of program.now) }
 {
     let mut all = Vec::new(alloc);
     let globals = program.globals();
     for number in 0..globals.len() {
-        all.push(variable_of(&globals[number], number as u32))?;
+        all.push(named_global(&globals[number], number as u32))?;
     }
     Ok(all)
 }

@@ -1,0 +1,244 @@
+-- That the variables found for a frame are all that names mean, and no other.
+use Rattle.std.proofs.Common.{◌≡◌, refl, sym, ap, ◌∙◌, ◌<◌, ◌≤◌, ◌+◌, zero, suc, true, false, None, Some, ℕ, List, [], ◌∷◌}
+use Rattle.std.proofs.Common.{◌++◌, Option, Bool, cond, arith, inl, inr, length}
+use Rattle.std.specs.Prelude.{All, Contains, ◌&&◌, ◌⊎◌, if◌then◌else◌, nat_le, nat_lt, slice_get}
+use Rattle.std.specs.Str.{bytes_eq}
+use Rattle.std.proofs.lemmas.Bool.{cases_lt}
+use Rattle.std.proofs.lemmas.List.Elements.{All-head, All-nil, All-push, All-tail, Contains-append_right}
+use Rattle.std.proofs.lemmas.Slice.Eq.{bytes_eq-Decides}
+use Rattle.om_code.specs.declared.raw.Body.{Body}
+use Rattle.om_code.specs.declared.raw.Raw.{Raw}
+use Rattle.om_code.specs.declared.raw.Scope.{Scope}
+use Rattle.om_code_places.specs.Visible.{around_below, around_or, as_inner, global_named, global_var, holds, innermost, meant, meant_in, meant_or, round_meant, slot_var, start_in, variable_at}
+use Rattle.om_code_places.specs.declared.visible.Around.{Around}
+use Rattle.om_code_places.specs.declared.visible.Local.{Local}
+use Rattle.om_code_places.specs.declared.visible.Var.{Var}
+use Rattle.om_code_places.specs.declared.visible.Var.TheVariants as var
+use Rattle.lab_dap_looks.specs.Frames.{FrameView}
+use Rattle.lab_dap_looks.specs.Variables.{NamedView, has_name, local_by, local_named, local_of, scopes_of, variables_of, with_bodies, with_name, with_scopes, with_variable}
+use Rattle.lab_dap_looks.specs.Visible.{AreVisible}
+use Rattle.lab_dap_looks.specs.declared.variables.VariableAt.{VariableAt}
+
+abbrev Meant : Raw → FrameView → NamedView → Type 0
+Meant raw f v = local_named raw f v.name ≡ Some v.variable
+
+-- ---- each is what its name means
+
+meant_by : (raw : Raw) (f : FrameView) (found : List NamedView) (name : List ℕ) (has : Bool)
+    (o : Option VariableAt) → local_named raw f name ≡ o → All (Meant raw f) found
+    → All (Meant raw f) (cond has found (with_variable found name o))
+meant_by raw f found name true o e h = h
+meant_by raw f found name false None e h = h
+meant_by raw f found name false (Some v) e h =
+    All-push (Meant raw f) found (record { name = name; variable = v }) h e
+
+scopes_meant : (raw : Raw) (f : FrameView) (found : List NamedView) (scopes : List Scope)
+    → All (Meant raw f) found → All (Meant raw f) (with_scopes raw f found scopes)
+scopes_meant raw f found [] h = h
+scopes_meant raw f found (scope ∷ scopes) h = scopes_meant raw f (with_name raw f found scope.name) scopes
+    (meant_by raw f found scope.name (has_name found scope.name) (local_named raw f scope.name) refl h)
+
+bodies_meant : (raw : Raw) (f : FrameView) (found : List NamedView) (k : ℕ) → All (Meant raw f) found
+    → All (Meant raw f) (with_bodies raw f found k)
+bodies_meant raw f found zero h = h
+bodies_meant raw f found (suc k) h =
+    bodies_meant raw f (with_scopes raw f found (scopes_of (slice_get raw.bodies k))) k
+    (scopes_meant raw f found (scopes_of (slice_get raw.bodies k)) h)
+
+-- ---- what is found stays found
+
+or_true : (b c : Bool) → c ≡ true → cond b true c ≡ true
+or_true true c e = refl
+or_true false c e = e
+
+more_has : (found : List NamedView) (v : NamedView) (name : List ℕ) → has_name found name ≡ true
+    → has_name (found ++ v ∷ []) name ≡ true
+more_has [] v name e = absurd (cc e)
+more_has (x ∷ xs) v name e = more_by (bytes_eq x.name name) e where
+  more_by : (b : Bool) → cond b true (has_name xs name) ≡ true → cond b true (has_name (xs ++ v ∷ []) name) ≡ true
+  more_by true e = refl
+  more_by false e = more_has xs v name e
+
+new_has : (found : List NamedView) (v : NamedView) → has_name (found ++ v ∷ []) v.name ≡ true
+new_has [] v =
+    let same : bytes_eq v.name v.name ≡ true = (bytes_eq-Decides v.name v.name).1 refl in
+    rw same refl
+new_has (x ∷ xs) v = or_true (bytes_eq x.name v.name) _ (new_has xs v)
+
+keeps_by : (found : List NamedView) (name other : List ℕ) (has : Bool) (o : Option VariableAt)
+    → has_name found name ≡ true → has_name (cond has found (with_variable found other o)) name ≡ true
+keeps_by found name other true o e = e
+keeps_by found name other false None e = e
+keeps_by found name other false (Some v) e = more_has found (record { name = other; variable = v }) name e
+
+scopes_keep : (raw : Raw) (f : FrameView) (found : List NamedView) (scopes : List Scope) (name : List ℕ)
+    → has_name found name ≡ true → has_name (with_scopes raw f found scopes) name ≡ true
+scopes_keep raw f found [] name e = e
+scopes_keep raw f found (scope ∷ scopes) name e =
+    scopes_keep raw f (with_name raw f found scope.name) scopes name
+    (keeps_by found name scope.name (has_name found scope.name) (local_named raw f scope.name) e)
+
+bodies_keep : (raw : Raw) (f : FrameView) (found : List NamedView) (k : ℕ) (name : List ℕ)
+    → has_name found name ≡ true → has_name (with_bodies raw f found k) name ≡ true
+bodies_keep raw f found zero name e = e
+bodies_keep raw f found (suc k) name e =
+    bodies_keep raw f (with_scopes raw f found (scopes_of (slice_get raw.bodies k))) k name
+    (scopes_keep raw f found (scopes_of (slice_get raw.bodies k)) name e)
+
+-- ---- what a name of a scope means is found
+
+has_scope : List Scope → List ℕ → Bool
+has_scope [] name = false
+has_scope (scope ∷ scopes) name = cond (bytes_eq name scope.name) true (has_scope scopes name)
+
+found_by : (raw : Raw) (f : FrameView) (found : List NamedView) (name : List ℕ) (v : VariableAt) (has : Bool)
+    → has_name found name ≡ has → local_named raw f name ≡ Some v
+    → has_name (cond has found (with_variable found name (local_named raw f name))) name ≡ true
+found_by raw f found name v true is e = is
+found_by raw f found name v false is e = rw e (new_has found (record { name = name; variable = v }))
+
+scopes_find : (raw : Raw) (f : FrameView) (found : List NamedView) (scopes : List Scope) (name : List ℕ)
+    (v : VariableAt) → has_scope scopes name ≡ true → local_named raw f name ≡ Some v
+    → has_name (with_scopes raw f found scopes) name ≡ true
+scopes_find raw f found [] name v has e = absurd (cc has)
+scopes_find raw f found (scope ∷ scopes) name v has e = find_by (bytes_eq name scope.name) refl has where
+  find_by : (b : Bool) → bytes_eq name scope.name ≡ b → cond b true (has_scope scopes name) ≡ true
+      → has_name (with_scopes raw f (with_name raw f found scope.name) scopes) name ≡ true
+  find_by true same has =
+      let is : name ≡ scope.name = (bytes_eq-Decides name scope.name).0 same in
+      scopes_keep raw f (with_name raw f found scope.name) scopes name
+      (rw sym is (found_by raw f found name v (has_name found name) refl e))
+  find_by false same has = scopes_find raw f (with_name raw f found scope.name) scopes name v has e
+
+bodies_find : (raw : Raw) (f : FrameView) (found : List NamedView) (most k : ℕ) (name : List ℕ)
+    (v : VariableAt) → k < most → has_scope (scopes_of (slice_get raw.bodies k)) name ≡ true
+    → local_named raw f name ≡ Some v → has_name (with_bodies raw f found most) name ≡ true
+bodies_find raw f found zero k name v p has e = absurd (omega (arith, p))
+bodies_find raw f found (suc n) k name v p has e = find_by (cases_lt k n) where
+  find_by : (k < n) ⊎ (n ≤ k)
+      → has_name (with_bodies raw f (with_scopes raw f found (scopes_of (slice_get raw.bodies n))) n) name ≡ true
+  find_by (inl below) =
+      bodies_find raw f (with_scopes raw f found (scopes_of (slice_get raw.bodies n))) n k name v below has e
+  find_by (inr from) =
+      let here : k ≡ n = omega (arith, p, from) in
+      bodies_keep raw f (with_scopes raw f found (scopes_of (slice_get raw.bodies n))) n name
+      (scopes_find raw f found (scopes_of (slice_get raw.bodies n)) name v (rw here at has) e)
+
+-- ---- a name that means a variable of the function is that of a scope, of this body or of one below
+
+and_right : (x y : Bool) → x && y ≡ true → y ≡ true
+and_right true y e = e
+and_right false y e = absurd (cc e)
+
+innermost_has : (at : ℕ) (name : List ℕ) (scopes : List Scope) (l : Local) → innermost at name scopes ≡ Some l
+    → has_scope scopes name ≡ true
+innermost_has at name [] l e = absurd (cc e)
+innermost_has at name (scope ∷ scopes) l e = has_by (holds at name scope) refl e where
+  has_by : (b : Bool) → holds at name scope ≡ b
+      → (if b then Some (record { slot = scope.slot; length = scope.length }) else innermost at name scopes) ≡ Some l
+      → cond (bytes_eq name scope.name) true (has_scope scopes name) ≡ true
+  has_by true is e =
+      rw and_right (nat_lt at scope.to) _ (and_right (nat_le scope.from at) _ is) refl
+  has_by false is e = or_true (bytes_eq name scope.name) _ (innermost_has at name scopes l e)
+
+global_no : (o : Option ℕ) (slot : ℕ) (length : Option ℕ) → global_var o ≡ Some (var.Slot slot length) → ⊥
+global_no None slot length e = cc e
+global_no (Some number) slot length e = cc e
+
+record IsSlot (o : Option Var) : Type 0 where
+  pub slot : ℕ
+  pub length : Option ℕ
+  pub is : o ≡ Some (var.Slot slot length)
+
+inner_slot : (outer : List (Option ℕ)) (o : Option Var) (slot : ℕ) (length : Option ℕ)
+    → as_inner outer o ≡ Some (var.Slot slot length) → IsSlot o
+inner_slot outer None slot length e = absurd (cc e)
+inner_slot outer (Some (var.Global number)) slot length e = absurd (cc e)
+inner_slot outer (Some (var.Slot s l)) slot length e = record { slot = s; length = l; is = refl }
+
+around_within : (bodies : List Body) (number k : ℕ) (a : Around) → around_below bodies number k ≡ Some a → a.body < k
+around_within bodies number zero a e = absurd (cc e)
+around_within bodies number (suc k) a e = within_by (start_in number (slice_get bodies k)) e where
+  within_by : (o : Option ℕ) → around_or k o (around_below bodies number k) ≡ Some a → a.body < suc k
+  within_by None e = let h = around_within bodies number k a e in omega (arith, h)
+  within_by (Some at) e =
+      let same : record { body = k; at = at } ≡ a = cc e in
+      let here : k ≡ a.body = ap (λ (x : Around). x.body) same in
+      omega (arith, here)
+
+record InScope (raw : Raw) (body : ℕ) (name : List ℕ) : Type 0 where
+  pub k : ℕ
+  pub below : k ≤ body
+  pub has : has_scope (scopes_of (slice_get raw.bodies k)) name ≡ true
+
+lower : (raw : Raw) (body body' : ℕ) (name : List ℕ) → body < body' → InScope raw body name → InScope raw body' name
+lower raw body body' name p h = record { k = h.k; below = let b = h.below in omega (arith, p, b); has = h.has }
+
+in_scope : (steps : ℕ) (raw : Raw) (body at : ℕ) (name : List ℕ) → IsSlot (meant steps raw body at name)
+    → InScope raw body name
+in_scope zero raw body at name h = absurd (cc h.is)
+in_scope (suc steps) raw body at name h = in_body (slice_get raw.bodies body) refl h.is where
+  rest : Around → Option Var
+  rest a = meant steps raw a.body a.at name
+
+  in_round : (b : Body) (o : Option Around) → around_below raw.bodies body body ≡ o
+      → round_meant (global_var (global_named raw name)) b.names.outer o rest ≡ Some (var.Slot h.slot h.length)
+      → InScope raw body name
+  in_round b None around e = absurd (global_no (global_named raw name) h.slot h.length e)
+  in_round b (Some a) around e =
+      lower raw a.body body name (around_within raw.bodies body body a around)
+      (in_scope steps raw a.body a.at name (inner_slot b.names.outer (rest a) h.slot h.length e))
+
+  in_local : (b : Body) (l : Option Local) → slice_get raw.bodies body ≡ Some b
+      → innermost at name b.names.scopes ≡ l
+      → meant_or l (round_meant (global_var (global_named raw name)) b.names.outer
+      (around_below raw.bodies body body) rest) ≡ Some (var.Slot h.slot h.length)
+      → InScope raw body name
+  in_local b (Some l) here is e = record {
+    k = body;
+    below = omega arith;
+    has = rw here (innermost_has at name b.names.scopes l is);
+  }
+  in_local b None here is e = in_round b (around_below raw.bodies body body) refl e
+
+  in_body : (o : Option Body) → slice_get raw.bodies body ≡ o
+      → meant_in raw body at name o rest ≡ Some (var.Slot h.slot h.length) → InScope raw body name
+  in_body None here e = absurd (global_no (global_named raw name) h.slot h.length e)
+  in_body (Some b) here e = in_local b (innermost at name b.names.scopes) here refl e
+
+local_slot : (f : FrameView) (o : Option Var) (v : VariableAt) → local_by f o ≡ Some v → IsSlot o
+local_slot f None v e = absurd (cc e)
+local_slot f (Some (var.Global number)) v e = absurd (cc e)
+local_slot f (Some (var.Slot slot length)) v e = record { slot = slot; length = length; is = refl }
+
+-- ---- all together
+
+contains_by : (raw : Raw) (f : FrameView) (found : List NamedView) (name : List ℕ) (v : VariableAt)
+    → All (Meant raw f) found → has_name found name ≡ true → local_named raw f name ≡ Some v
+    → Contains found (record { name = name; variable = v })
+contains_by raw f [] name v all has e = absurd (cc has)
+contains_by raw f (x ∷ xs) name v all has e = here_or (bytes_eq x.name name) refl has where
+  here_or : (b : Bool) → bytes_eq x.name name ≡ b → cond b true (has_name xs name) ≡ true
+      → Contains (x ∷ xs) (record { name = name; variable = v })
+  here_or true is has =
+      let same : x.name ≡ name = (bytes_eq-Decides x.name name).0 is in
+      let means : Some x.variable ≡ Some v = sym (All-head (Meant raw f) x xs all) ∙ ap (local_named raw f) same ∙ e in
+      let variable : x.variable ≡ v = cc means in
+      let is_it : x ≡ record { name = name; variable = v } =
+      rw (sym same, sym variable) refl in
+      (0, omega arith, is_it)
+  here_or false is has = Contains-append_right (x ∷ []) xs (record { name = name; variable = v })
+      (contains_by raw f xs name v (All-tail (Meant raw f) x xs all) has e)
+
+pub are_visible : (raw : Raw) (f : FrameView) → AreVisible raw f (variables_of raw f)
+are_visible raw f =
+    let all = bodies_meant raw f [] (f.frame.body + 1) (All-nil (Meant raw f)) in
+    record {
+      meant = all;
+      all = λ name v e.
+          let place = in_scope (f.frame.body + 1) raw f.frame.body f.at name
+          (local_slot f (variable_at raw f.frame.body f.at name) v e) in
+          let below : place.k < f.frame.body + 1 = let b = place.below in omega (arith, b) in
+          contains_by raw f (variables_of raw f) name v all
+          (bodies_find raw f [] (f.frame.body + 1) place.k name v below place.has e) e;
+    }
