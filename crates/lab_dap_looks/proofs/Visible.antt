@@ -15,16 +15,17 @@ use Rattle.om_code_places.specs.declared.visible.Local.{Local}
 use Rattle.om_code_places.specs.declared.visible.Var.{Var}
 use Rattle.om_code_places.specs.declared.visible.Var.TheVariants as var
 use Rattle.lab_dap_looks.specs.Frames.{FrameView}
-use Rattle.lab_dap_looks.specs.Variables.{NamedView, has_name, local_by, local_named, local_of, scopes_of, variables_of, with_bodies, with_name, with_scopes, with_variable}
+use Rattle.lab_dap_looks.specs.Variables.{has_name, local_by, local_named, local_of, scopes_of, variables_of, with_bodies, with_found, with_scopes, with_variable}
 use Rattle.lab_dap_looks.specs.Visible.{AreVisible}
+use Rattle.lab_dap_looks.specs.declared.variables.NamedVariable.{NamedVariable}
 use Rattle.lab_dap_looks.specs.declared.variables.VariableAt.{VariableAt}
 
-abbrev Meant : Raw → FrameView → NamedView → Type 0
+abbrev Meant : Raw → FrameView → NamedVariable → Type 0
 Meant raw f v = local_named raw f v.name ≡ Some v.variable
 
 -- ---- each is what its name means
 
-meant_by : (raw : Raw) (f : FrameView) (found : List NamedView) (name : List ℕ) (has : Bool)
+meant_by : (raw : Raw) (f : FrameView) (found : List NamedVariable) (name : List ℕ) (has : Bool)
     (o : Option VariableAt) → local_named raw f name ≡ o → All (Meant raw f) found
     → All (Meant raw f) (cond has found (with_variable found name o))
 meant_by raw f found name true o e h = h
@@ -32,13 +33,13 @@ meant_by raw f found name false None e h = h
 meant_by raw f found name false (Some v) e h =
     All-push (Meant raw f) found (record { name = name; variable = v }) h e
 
-scopes_meant : (raw : Raw) (f : FrameView) (found : List NamedView) (scopes : List Scope)
+scopes_meant : (raw : Raw) (f : FrameView) (found : List NamedVariable) (scopes : List Scope)
     → All (Meant raw f) found → All (Meant raw f) (with_scopes raw f found scopes)
 scopes_meant raw f found [] h = h
-scopes_meant raw f found (scope ∷ scopes) h = scopes_meant raw f (with_name raw f found scope.name) scopes
+scopes_meant raw f found (scope ∷ scopes) h = scopes_meant raw f (with_found raw f found scope.name) scopes
     (meant_by raw f found scope.name (has_name found scope.name) (local_named raw f scope.name) refl h)
 
-bodies_meant : (raw : Raw) (f : FrameView) (found : List NamedView) (k : ℕ) → All (Meant raw f) found
+bodies_meant : (raw : Raw) (f : FrameView) (found : List NamedVariable) (k : ℕ) → All (Meant raw f) found
     → All (Meant raw f) (with_bodies raw f found k)
 bodies_meant raw f found zero h = h
 bodies_meant raw f found (suc k) h =
@@ -51,7 +52,7 @@ or_true : (b c : Bool) → c ≡ true → cond b true c ≡ true
 or_true true c e = refl
 or_true false c e = e
 
-more_has : (found : List NamedView) (v : NamedView) (name : List ℕ) → has_name found name ≡ true
+more_has : (found : List NamedVariable) (v : NamedVariable) (name : List ℕ) → has_name found name ≡ true
     → has_name (found ++ v ∷ []) name ≡ true
 more_has [] v name e = absurd (cc e)
 more_has (x ∷ xs) v name e = more_by (bytes_eq x.name name) e where
@@ -59,26 +60,26 @@ more_has (x ∷ xs) v name e = more_by (bytes_eq x.name name) e where
   more_by true e = refl
   more_by false e = more_has xs v name e
 
-new_has : (found : List NamedView) (v : NamedView) → has_name (found ++ v ∷ []) v.name ≡ true
+new_has : (found : List NamedVariable) (v : NamedVariable) → has_name (found ++ v ∷ []) v.name ≡ true
 new_has [] v =
     let same : bytes_eq v.name v.name ≡ true = (bytes_eq-Decides v.name v.name).1 refl in
     rw same refl
 new_has (x ∷ xs) v = or_true (bytes_eq x.name v.name) _ (new_has xs v)
 
-keeps_by : (found : List NamedView) (name other : List ℕ) (has : Bool) (o : Option VariableAt)
+keeps_by : (found : List NamedVariable) (name other : List ℕ) (has : Bool) (o : Option VariableAt)
     → has_name found name ≡ true → has_name (cond has found (with_variable found other o)) name ≡ true
 keeps_by found name other true o e = e
 keeps_by found name other false None e = e
 keeps_by found name other false (Some v) e = more_has found (record { name = other; variable = v }) name e
 
-scopes_keep : (raw : Raw) (f : FrameView) (found : List NamedView) (scopes : List Scope) (name : List ℕ)
+scopes_keep : (raw : Raw) (f : FrameView) (found : List NamedVariable) (scopes : List Scope) (name : List ℕ)
     → has_name found name ≡ true → has_name (with_scopes raw f found scopes) name ≡ true
 scopes_keep raw f found [] name e = e
 scopes_keep raw f found (scope ∷ scopes) name e =
-    scopes_keep raw f (with_name raw f found scope.name) scopes name
+    scopes_keep raw f (with_found raw f found scope.name) scopes name
     (keeps_by found name scope.name (has_name found scope.name) (local_named raw f scope.name) e)
 
-bodies_keep : (raw : Raw) (f : FrameView) (found : List NamedView) (k : ℕ) (name : List ℕ)
+bodies_keep : (raw : Raw) (f : FrameView) (found : List NamedVariable) (k : ℕ) (name : List ℕ)
     → has_name found name ≡ true → has_name (with_bodies raw f found k) name ≡ true
 bodies_keep raw f found zero name e = e
 bodies_keep raw f found (suc k) name e =
@@ -91,26 +92,26 @@ has_scope : List Scope → List ℕ → Bool
 has_scope [] name = false
 has_scope (scope ∷ scopes) name = cond (bytes_eq name scope.name) true (has_scope scopes name)
 
-found_by : (raw : Raw) (f : FrameView) (found : List NamedView) (name : List ℕ) (v : VariableAt) (has : Bool)
+found_by : (raw : Raw) (f : FrameView) (found : List NamedVariable) (name : List ℕ) (v : VariableAt) (has : Bool)
     → has_name found name ≡ has → local_named raw f name ≡ Some v
     → has_name (cond has found (with_variable found name (local_named raw f name))) name ≡ true
 found_by raw f found name v true is e = is
 found_by raw f found name v false is e = rw e (new_has found (record { name = name; variable = v }))
 
-scopes_find : (raw : Raw) (f : FrameView) (found : List NamedView) (scopes : List Scope) (name : List ℕ)
+scopes_find : (raw : Raw) (f : FrameView) (found : List NamedVariable) (scopes : List Scope) (name : List ℕ)
     (v : VariableAt) → has_scope scopes name ≡ true → local_named raw f name ≡ Some v
     → has_name (with_scopes raw f found scopes) name ≡ true
 scopes_find raw f found [] name v has e = absurd (cc has)
 scopes_find raw f found (scope ∷ scopes) name v has e = find_by (bytes_eq name scope.name) refl has where
   find_by : (b : Bool) → bytes_eq name scope.name ≡ b → cond b true (has_scope scopes name) ≡ true
-      → has_name (with_scopes raw f (with_name raw f found scope.name) scopes) name ≡ true
+      → has_name (with_scopes raw f (with_found raw f found scope.name) scopes) name ≡ true
   find_by true same has =
       let is : name ≡ scope.name = (bytes_eq-Decides name scope.name).0 same in
-      scopes_keep raw f (with_name raw f found scope.name) scopes name
+      scopes_keep raw f (with_found raw f found scope.name) scopes name
       (rw sym is (found_by raw f found name v (has_name found name) refl e))
-  find_by false same has = scopes_find raw f (with_name raw f found scope.name) scopes name v has e
+  find_by false same has = scopes_find raw f (with_found raw f found scope.name) scopes name v has e
 
-bodies_find : (raw : Raw) (f : FrameView) (found : List NamedView) (most k : ℕ) (name : List ℕ)
+bodies_find : (raw : Raw) (f : FrameView) (found : List NamedVariable) (most k : ℕ) (name : List ℕ)
     (v : VariableAt) → k < most → has_scope (scopes_of (slice_get raw.bodies k)) name ≡ true
     → local_named raw f name ≡ Some v → has_name (with_bodies raw f found most) name ≡ true
 bodies_find raw f found zero k name v p has e = absurd (omega (arith, p))
@@ -213,7 +214,7 @@ local_slot f (Some (var.Slot slot length)) v e = record { slot = slot; length = 
 
 -- ---- all together
 
-contains_by : (raw : Raw) (f : FrameView) (found : List NamedView) (name : List ℕ) (v : VariableAt)
+contains_by : (raw : Raw) (f : FrameView) (found : List NamedVariable) (name : List ℕ) (v : VariableAt)
     → All (Meant raw f) found → has_name found name ≡ true → local_named raw f name ≡ Some v
     → Contains found (record { name = name; variable = v })
 contains_by raw f [] name v all has e = absurd (cc has)

@@ -25,14 +25,6 @@ abbrev pub cell_in : Storage → ℕ → Obj
 cell_in (storage.Global variable) index = object.Global variable index
 cell_in (storage.Slot slot) index = slots.cell_at slot index
 
--- a variable with its name
-pub record NamedView : Type 0 where
-  pub name : List ℕ
-  pub variable : VariableAt
-
-abbrev pub shown : NamedVariable → NamedView
-shown n = record { name = n.name.now; variable = n.variable }
-
 -- ---- one name
 
 -- where the cells of a frame's slot lie: those of a variable from outside of a region lie in a frame outside
@@ -77,48 +69,48 @@ local_named raw f name = local_by f (meant_at raw f name)
 
 -- ---- all names
 
-abbrev pub has_name : List NamedView → List ℕ → Bool
+abbrev pub has_name : List NamedVariable → List ℕ → Bool
 has_name [] name = false
 has_name (v ∷ vs) name = cond (bytes_eq v.name name) true (has_name vs name)
 
-abbrev pub with_variable : List NamedView → List ℕ → Option VariableAt → List NamedView
+abbrev pub with_variable : List NamedVariable → List ℕ → Option VariableAt → List NamedVariable
 with_variable found name None = found
 with_variable found name (Some v) = found ++ record { name = name; variable = v } ∷ []
 
 -- what a name means is found once
-abbrev pub with_name : Raw → FrameView → List NamedView → List ℕ → List NamedView
-with_name raw f found name =
+abbrev pub with_found : Raw → FrameView → List NamedVariable → List ℕ → List NamedVariable
+with_found raw f found name =
     cond (has_name found name) found (with_variable found name (local_named raw f name))
 
-abbrev pub with_scopes : Raw → FrameView → List NamedView → List Scope → List NamedView
+abbrev pub with_scopes : Raw → FrameView → List NamedVariable → List Scope → List NamedVariable
 with_scopes raw f found [] = found
-with_scopes raw f found (scope ∷ scopes) = with_scopes raw f (with_name raw f found scope.name) scopes
+with_scopes raw f found (scope ∷ scopes) = with_scopes raw f (with_found raw f found scope.name) scopes
 
 abbrev pub scopes_of : Option Body → List Scope
 scopes_of None = []
 scopes_of (Some body) = body.names.scopes
 
 -- what the names of the scopes of so many bodies mean, from the last of these bodies down
-abbrev pub with_bodies : Raw → FrameView → List NamedView → ℕ → List NamedView
+abbrev pub with_bodies : Raw → FrameView → List NamedVariable → ℕ → List NamedVariable
 with_bodies raw f found zero = found
 with_bodies raw f found (suc k) =
     with_bodies raw f (with_scopes raw f found (scopes_of (slice_get raw.bodies k))) k
 
 -- the variables of the function that names mean where a frame stands: a region stands in a body of a lower number
-abbrev pub variables_of : Raw → FrameView → List NamedView
+abbrev pub variables_of : Raw → FrameView → List NamedVariable
 variables_of raw f = with_bodies raw f [] (f.frame.body + 1)
 
 -- the global variable of a number, with its name
-abbrev pub named_global : GlobalVariable → ℕ → NamedView
+abbrev pub named_global : GlobalVariable → ℕ → NamedVariable
 named_global global number = record {
   name = global.name;
   variable = record { length = global.length; storage = storage.Global number };
 }
 
 -- the global variables, from this number on
-abbrev pub globals_from : List GlobalVariable → ℕ → List NamedView
+abbrev pub globals_from : List GlobalVariable → ℕ → List NamedVariable
 globals_from [] number = []
 globals_from (global ∷ globals) number = named_global global number ∷ globals_from globals (number + 1)
 
-abbrev pub globals_of : Raw → List NamedView
+abbrev pub globals_of : Raw → List NamedVariable
 globals_of raw = globals_from raw.globals 0

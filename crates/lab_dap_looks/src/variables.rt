@@ -1,8 +1,8 @@
 //! The variables that a frame sees, and where their cells lie.
 
-ghost use Rattle.std.specs.Prelude.{◌≡◌, IfOk, OnOk, map, slice_get};
+ghost use Rattle.std.specs.Prelude.{◌≡◌, IfOk, OnOk, slice_get};
 ghost use Rattle.lab_dap_looks.specs.Frames.{seen};
-ghost use Rattle.lab_dap_looks.specs.Variables.{cell_in, global_at, global_named, globals_of, has_name, length_of, local_named, local_of, meant_at, named_global, scopes_of, shown, slot_of, variable_named, variables_of, with_bodies, with_name, with_scopes};
+ghost use Rattle.lab_dap_looks.specs.Variables.{cell_in, global_at, global_named, globals_of, has_name, length_of, local_named, local_of, meant_at, named_global, scopes_of, slot_of, variable_named, variables_of, with_bodies, with_found, with_scopes};
 ghost use Rattle.lab_dap_looks.specs.Visible.{AreVisible};
 
 use crate::frames::FrameAt;
@@ -46,11 +46,23 @@ pub struct VariableAt {
     pub storage: Storage,
 }
 
-/// A variable with the bytes of its name.
-#[derive(Clone, Copy)]
-pub struct NamedVariable<'m> {
-    pub name: &'m Seq<u8>,
+/// A variable with its name.
+#[derive(Drop)]
+pub struct NamedVariable {
+    /// The bytes of its name.
+    pub name: Seq<u8>,
     pub variable: VariableAt,
+}
+
+// A variable with a copy of its name. The only error is out of memory.
+fn with_name(alloc: Global, name: &[u8], variable: VariableAt) -> AllocResult<NamedVariable>
+    ensures { IfOk result (λ named. named ≡ record { name = name.now; variable = variable }) }
+{
+    let name = Vec::from_slice(alloc, name)?;
+    Ok(NamedVariable {
+        name: Seq::of(name),
+        variable,
+    })
 }
 
 // The slot in which the cells of a frame's slot lie.
@@ -136,8 +148,8 @@ fn local_named(program: &Program, frame: &FrameAt<'_>, name: &[u8]) -> Option<Va
 }
 
 // Whether one of these variables has this name.
-fn has_name(found: &[NamedVariable<'_>], name: &[u8]) -> bool
-    ensures { result ≡ has_name (map shown found.now) name.now }
+fn has_name(found: &[NamedVariable], name: &[u8]) -> bool
+    ensures { result ≡ has_name found.now name.now }
 {
     for other in found {
         if other.name.as_slice() == name {
@@ -149,37 +161,39 @@ fn has_name(found: &[NamedVariable<'_>], name: &[u8]) -> bool
 
 // Appends the variable of the function that a name means where a frame stands, if it means one and none of that
 // name is there.
-fn push_local<'m>(
-    found: &mut Vec<NamedVariable<'m>>,
+fn push_local(
+    alloc: Global,
+    found: &mut Vec<NamedVariable>,
     program: &Program,
     frame: &FrameAt<'_>,
-    name: &'m Seq<u8>,
+    name: &[u8],
 ) -> AllocResult<()>
-    ensures { OnOk result (map shown found.new.items
-        ≡ with_name program.now (seen frame.now) (map shown found.old.items) name.now) }
+    ensures { OnOk result (found.new.items
+        ≡ with_found program.now (seen frame.now) found.old.items name.now) }
 {
-    if has_name(found.as_slice(), name.as_slice()) {
+    if has_name(found.as_slice(), name) {
         return Ok(());
     }
-    let Some(variable) = local_named(program, frame, name.as_slice()) else {
+    let Some(variable) = local_named(program, frame, name) else {
         return Ok(());
     };
-    found.push(NamedVariable { name, variable })?;
+    found.push(with_name(alloc, name, variable)?)?;
     Ok(())
 }
 
 // Appends those of the names of scopes.
-fn push_scopes<'m>(
-    found: &mut Vec<NamedVariable<'m>>,
+fn push_scopes(
+    alloc: Global,
+    found: &mut Vec<NamedVariable>,
     program: &Program,
     frame: &FrameAt<'_>,
-    scopes: &'m [Scope],
+    scopes: &[Scope],
 ) -> AllocResult<()>
-    ensures { OnOk result (map shown found.new.items
-        ≡ with_scopes program.now (seen frame.now) (map shown found.old.items) scopes.now) }
+    ensures { OnOk result (found.new.items
+        ≡ with_scopes program.now (seen frame.now) found.old.items scopes.now) }
 {
     for scope in scopes {
-        push_local(found, program, frame, &scope.name)?;
+        push_local(alloc, found, program, frame, scope.name.as_slice())?;
     }
     Ok(())
 }
@@ -197,46 +211,44 @@ fn scopes_of(program: &Program, body: usize) -> &[Scope]
 /// The variables of the function that names mean where a frame stands, each once: those of the body's own scopes
 /// first, in their order there, then those of the bodies round it. A variable from outside of a region that no
 /// part of the region uses is not among them. The only error is out of memory.
-pub fn variables_of<'m>(
+pub fn variables_of(
     alloc: Global,
-    program: &'m Program,
+    program: &Program,
     frame: &FrameAt<'_>,
-) -> AllocResult<Vec<NamedVariable<'m>>>
+) -> AllocResult<Vec<NamedVariable>>
     ensures found { IfOk result
-        (λ found. map shown found.items ≡ variables_of program.now (seen frame.now)) }
+        (λ found. found.items ≡ variables_of program.now (seen frame.now)) }
     ensures visible { IfOk result
-        (λ found. AreVisible program.now (seen frame.now) (map shown found.items)) }
+        (λ found. AreVisible program.now (seen frame.now) found.items) }
 {
     let mut found = Vec::new(alloc);
     let mut below = frame.frame.body as usize + 1;
     while below > 0 {
         below -= 1;
-        push_scopes(&mut found, program, frame, scopes_of(program, below))?;
+        push_scopes(alloc, &mut found, program, frame, scopes_of(program, below))?;
     }
     Ok(found)
 }
 
 // The global variable of a number, with its name.
-fn named_global(global: &GlobalVariable, number: u32) -> NamedVariable<'_>
-    ensures { shown result ≡ named_global global.now number }
+fn named_global(alloc: Global, global: &GlobalVariable, number: u32) -> AllocResult<NamedVariable>
+    ensures { IfOk result (λ named. named ≡ named_global global.now number) }
 {
-    NamedVariable {
-        name: &global.name,
-        variable: VariableAt {
-            length: global.length,
-            storage: Storage::Global(number),
-        },
-    }
+    let variable = VariableAt {
+        length: global.length,
+        storage: Storage::Global(number),
+    };
+    with_name(alloc, global.name.as_slice(), variable)
 }
 
 /// The global variables of a program, by their numbers. The only error is out of memory.
-pub fn globals_of(alloc: Global, program: &Program) -> AllocResult<Vec<NamedVariable<'_>>>
-    ensures { IfOk result (λ all. map shown all.items ≡ globals_of program.now) }
+pub fn globals_of(alloc: Global, program: &Program) -> AllocResult<Vec<NamedVariable>>
+    ensures { IfOk result (λ all. all.items ≡ globals_of program.now) }
 {
     let mut all = Vec::new(alloc);
     let globals = program.globals();
     for number in 0..globals.len() {
-        all.push(named_global(&globals[number], number as u32))?;
+        all.push(named_global(alloc, &globals[number], number as u32)?)?;
     }
     Ok(all)
 }

@@ -35,10 +35,10 @@ made_of b e can = last_of_both (nat_lt e.worker b.start.workers) _ (last_of_both
 -- what a step that was made leaves
 stepped : (b : BookView) (l : Label) → is_made (step_reply (machine_of b) l) ≡ true
     → (machine_of (with_step b l)).history ≡ record {
-  entries = (machine_of b).history.entries ++ entry_for (machine_of b).history.made l (step_at (rules_for (machine_of b))
-      (state_in (machine_of b)) l) ∷ [];
-  made = (machine_of b).history.made + 1;
-}
+      entries = (machine_of b).history.entries ++ entry_for (machine_of b).history.made l (step_at (rules_for (machine_of b))
+          (state_in (machine_of b)) l) ∷ [];
+      made = (machine_of b).history.made + 1;
+    }
 stepped b l made =
     ap (λ (m : MachineView). m.history) (machine_behind b (call.Step l.worker l.choice))
     ∙ with_updates (machine_of b).history (entry_for (machine_of b).history.made l (step_at (rules_for (machine_of b))

@@ -13,7 +13,7 @@ use Rattle.om_state.specs.declared.step.Choice.{Choice}
 use Rattle.om_state.specs.declared.step.Choice.TheVariants.{Next}
 use Rattle.lab_dap_moves.specs.declared.moved.Why.{Why}
 use Rattle.lab_dap_moves.specs.declared.moved.Why.TheVariants as why
-use Rattle.lab_dap_moves.specs.declared.run.First.{First}
+use Rattle.lab_dap_moves.specs.declared.runs.First.{First}
 use Rattle.lab_dap_moves.specs.declared.stand.Stand.{Stand}
 use Rattle.lab_dap_moves.specs.declared.step.Came.{Came}
 use Rattle.lab_dap_moves.specs.declared.step.Errand.{Errand}

@@ -10,9 +10,9 @@ use Rattle.om_state.specs.declared.step.Label.{Label}
 use Rattle.om_undo.specs.Machines.{MachineView, control_at}
 use Rattle.lab_dap_moves.specs.declared.moved.Why.{Why}
 use Rattle.lab_dap_moves.specs.declared.moved.Why.TheVariants as why
-use Rattle.lab_dap_moves.specs.declared.run.First.{First}
-use Rattle.lab_dap_moves.specs.declared.run.First.TheVariants as first
-use Rattle.lab_dap_moves.specs.declared.run.Met.{Met}
+use Rattle.lab_dap_moves.specs.declared.runs.First.{First}
+use Rattle.lab_dap_moves.specs.declared.runs.First.TheVariants as first
+use Rattle.lab_dap_moves.specs.declared.runs.Met.{Met}
 use Rattle.lab_dap_moves.specs.declared.step.Aim.TheVariants as aim
 use Rattle.lab_dap_moves.specs.declared.step.Came.{Came}
 use Rattle.lab_dap_moves.specs.declared.step.Came.TheVariants as came

@@ -1,6 +1,6 @@
 use Rattle.std.proofs.Common.{◌≡◌, ◌-◌}
 use Rattle.lab_dap_moves.specs.Runs.{first_met, met_from}
-use Rattle.lab_dap_moves.proofs.run.first_met.Given as goal
+use Rattle.lab_dap_moves.proofs.runs.first_met.Given as goal
 
 -- none of the workers so far stands at a fault
 abbrev pub invariant-loop-worker : goal.invariant-loop-worker

@@ -1,6 +1,6 @@
 use Rattle.std.proofs.Common.{◌≡◌, drop}
 use Rattle.lab_dap_moves.specs.Renewals.{remade}
-use Rattle.lab_dap_moves.proofs.renewed.remake.Given as goal
+use Rattle.lab_dap_moves.proofs.renewal.remake.Given as goal
 
 -- what the entries that are left make of the book is what all make
 abbrev pub invariant-loop-entry : goal.invariant-loop-entry

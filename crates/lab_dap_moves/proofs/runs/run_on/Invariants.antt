@@ -1,6 +1,6 @@
 use Rattle.std.proofs.Common.{◌≡◌, ◌+◌}
 use Rattle.lab_dap_moves.specs.Runs.{run_from}
-use Rattle.lab_dap_moves.proofs.run.run_on.Given as goal
+use Rattle.lab_dap_moves.proofs.runs.run_on.Given as goal
 
 -- what the run comes to from here on is what it comes to in all
 abbrev pub invariant-steps : goal.invariant-steps

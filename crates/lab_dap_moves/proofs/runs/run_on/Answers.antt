@@ -1,6 +1,6 @@
 use Rattle.std.proofs.Common.{refl, sym, ap, ◌∙◌, arith}
 use Rattle.lab_dap_moves.proofs.Walking.{run_came, run_ends, move_start}
-use Rattle.lab_dap_moves.proofs.run.run_on.Goals as goal
+use Rattle.lab_dap_moves.proofs.runs.run_on.Goals as goal
 
 pub returns-in-Rests-clause-moved : goal.returns-in-Rests-clause-moved
 returns-in-Rests-clause-moved c =
