@@ -1,10 +1,11 @@
 //! The frames of a worker, and where each stands.
 
-ghost use Rattle.std.specs.Prelude.{◌≡◌, ◌++◌, ◌∷◌, [], IfOk, IfSome, OnOk, map, option_map, slice_get};
+ghost use Rattle.std.specs.Prelude.{◌≡◌, ◌++◌, IfOk, IfSome, OnOk, map, option_copied, option_map, slice_get};
+ghost use Rattle.om_memory.specs.Memories.{plain_or_idle};
 ghost use Rattle.om_memory.specs.Plain.{plain_box, plain_context, plain_frame, plain_held, plain_stack};
 ghost use Rattle.om_undo.specs.Machines.{control_at};
 ghost use Rattle.om_task.specs.Rules.{line_in};
-ghost use Rattle.lab_dap_looks.specs.Frames.{caller_at, callers_in, frame_at, frames_in, frames_of, seen, stack_frames, tasks_frames};
+ghost use Rattle.lab_dap_looks.specs.Frames.{callers_in, frame_at, frames_by, frames_in, frames_of, seen, stack_frames, tasks_frames};
 
 use om_code::Program;
 use om_memory::{Context, Control, Frame, Stack, Tape};
@@ -122,9 +123,25 @@ fn frames_on<'m>(
     Ok(frames)
 }
 
+// The frames of a worker of this control.
+fn frames_by<'m>(
+    alloc: Global,
+    program: &Program,
+    control: Option<&'m Control>,
+) -> AllocResult<Vec<FrameAt<'m>>>
+    ensures { IfOk result (λ frames. map seen frames.items
+        ≡ frames_by program.now (plain_or_idle (option_copied control.entry))) }
+{
+    match control {
+        Some(Control::Running(stack)) => frames_on(alloc, program, stack),
+        Some(Control::Faulted(_, stack)) => frames_on(alloc, program, stack),
+        Some(Control::Idle) | Some(Control::Ended(_)) | None => Ok(Vec::new(alloc)),
+    }
+}
+
 /// The frames of a worker: those of the task that runs, the running one first, then those that wait for it,
-/// and then those of each task below. Where the worker is idle or has ended, there is none. The only error is
-/// out of memory.
+/// and then those of each task below. Where the worker is idle or has ended, there is none. The first one's line
+/// is the worker's (`Machine::line`). The only error is out of memory.
 pub fn frames_of<'m>(
     alloc: Global,
     machine: &'m Machine,
@@ -134,9 +151,5 @@ pub fn frames_of<'m>(
     ensures first { IfOk result (λ frames. IfSome (slice_get frames.items 0)
         (λ frame. frame.line ≡ line_in machine.now.program (control_at machine.now worker))) }
 {
-    match machine.control(worker) {
-        Some(Control::Running(stack)) => frames_on(alloc, machine.program(), stack),
-        Some(Control::Faulted(_, stack)) => frames_on(alloc, machine.program(), stack),
-        Some(Control::Idle) | Some(Control::Ended(_)) | None => Ok(Vec::new(alloc)),
-    }
+    frames_by(alloc, machine.program(), machine.control(worker))
 }

@@ -1,8 +1,7 @@
 //! The lines of a program that have instructions, and functions by their names.
 
 ghost use Rattle.std.specs.Prelude.{◌≡◌, ◌++◌, ◌↔◌, ℕ, Contains, IfOk, OnOk, slice_get, position};
-ghost use Rattle.std.specs.List.Sorted.{IsStrictlySortedBy};
-ghost use Rattle.std.specs.Ordering.{nat_cmp};
+ghost use Rattle.std.specs.List.Sorted.{IsStrictlyIncreasing};
 ghost use Rattle.std.specs.Str.{bytes_eq};
 ghost use Rattle.lab_dap_looks.specs.Lines.{HasLine, all_lines, code_lines, first_line, function_of, line_of};
 
@@ -34,7 +33,7 @@ fn all_lines(alloc: Global, bodies: &[Body]) -> AllocResult<Vec<u32>>
 
 /// The lines of a program that have an instruction, ascending, each once. The only error is out of memory.
 pub fn lines_of(alloc: Global, program: &Program) -> AllocResult<Vec<u32>>
-    ensures ascending { IfOk result (λ lines. IsStrictlySortedBy nat_cmp lines.items) }
+    ensures ascending { IfOk result (λ lines. IsStrictlyIncreasing lines.items) }
     ensures members { IfOk result
         (λ lines. (line : ℕ) → Contains lines.items line ↔ HasLine program.now line) }
 {

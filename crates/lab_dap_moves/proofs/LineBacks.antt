@@ -36,16 +36,16 @@ refused_same : (m : MachineView) (worker : ℕ) → may_undo worker m ≡ false 
 refused_same m worker e =
     ap (λ h. record m { history = h }) (without_refused m.history (last_place worker m.history.entries) _ e)
 
-undo_leaves : (b : BookView) (worker : ℕ)
+pub undo_leaves : (b : BookView) (worker : ℕ)
     → machine_of (with_debugger_call b (call.Undo worker)) ≡ with_undo (machine_of b) worker
 undo_leaves b worker = machine_behind b (call.Undo worker)
 
 -- what came of an undo, and the machine that it left
-record NotBack (from : Stand) (worker most : ℕ) (b : BookView) (reason : Why) : Type 0 where
+pub record NotBack (from : Stand) (worker most : ℕ) (b : BookView) (reason : Why) : Type 0 where
   pub same : machine_of (back_book worker b) ≡ machine_of b
   pub told : IsTrueBack reason most 0 from worker (back_book worker b)
 
-record IsBack (worker : ℕ) (b : BookView) : Type 0 where
+pub record IsBack (worker : ℕ) (b : BookView) : Type 0 where
   pub allowed : may_undo worker (machine_of b) ≡ true
   pub after : machine_of (back_book worker b) ≡ with_undo (machine_of b) worker
 
@@ -116,7 +116,7 @@ is_back worker b e = is_back_by worker b (is_full b) refl e
 -- ---- a way back
 
 -- a course went back by so many undos behind so many others, of so many at most
-record CameBack (left steps : ℕ) (from : Stand) (worker : ℕ) (b : BookView) (c : Course) : Type 0 where
+pub record CameBack (left steps : ℕ) (from : Stand) (worker : ℕ) (b : BookView) (c : Course) : Type 0 where
   pub n : ℕ
   pub count : c.moved.steps ≡ steps + n
   pub back : WentBack left from worker b c.book n c.moved.why

@@ -1,5 +1,5 @@
 -- The ways back as far as they lead: of all workers, and of one.
-use Rattle.std.specs.Prelude.{ℕ, zero, suc, ◌+◌, cond, ◌&&◌, List, [], ◌∷◌, Option, None, Some, map, nat_eq, nat_lt}
+use Rattle.std.specs.Prelude.{ℕ, zero, suc, ◌+◌, ◌==◌, cond, ◌&&◌, List, [], ◌∷◌, Option, None, Some, map, nat_lt}
 use Rattle.std.specs.Option.{option_or}
 use Rattle.om_book.specs.Books.{BookView, is_full, machine_of}
 use Rattle.om_book_journal.specs.declared.command.Command.TheVariants as call
@@ -24,7 +24,7 @@ use Rattle.lab_dap_moves.specs.Undos.{back_book, last_of, step_of, undone_why}
 abbrev pub own_line : ℕ → List Standing → Option ℕ
 own_line worker [] = None
 own_line worker (step ∷ steps) =
-    option_or (own_line worker steps) (cond (nat_eq step.worker worker) (Some step.line) None)
+    option_or (own_line worker steps) (cond (step.worker == worker) (Some step.line) None)
 
 -- a worker stands at the first step of a line at which there is a break
 abbrev pub line_break : List ℕ → Stand → Option ℕ → Option Why

@@ -37,12 +37,12 @@ IsTrueBack _ most steps from worker b = ⊥
 
 -- so many undos of a worker, and of no other, led from one book to another: each was allowed, and only the last one
 -- may have led to the first step of a line; and what is told is true
-pub record WentBack (most : ℕ) (from : Stand) (worker : ℕ) (before after : BookView) (steps : ℕ) (told : Why) : Type 0
+pub record WentBack (most : ℕ) (from : Stand) (worker : ℕ) (before after : BookView) (steps : ℕ) (reason : Why) : Type 0
   where
     pub went : machine_of after ≡ undos worker steps (machine_of before)
     pub allowed : (k : ℕ) → k < steps → may_undo worker (undos worker k (machine_of before)) ≡ true
     pub passed : (k : ℕ) → suc k < steps → is_line_start from worker (undos worker (suc k) (machine_of before)) ≡ false
-    pub told : IsTrueBack told most steps from worker after
+    pub told : IsTrueBack reason most steps from worker after
 
 -- a line back
 abbrev pub IsLineBack : ℕ → BookView → BookView → Moved → Type 0

@@ -3,7 +3,7 @@
 ghost use Rattle.std.specs.Prelude.{◌≡◌, option_copied};
 ghost use Rattle.om_memory.specs.Memories.{plain_or_idle};
 ghost use Rattle.om_memory.specs.Plain.{plain_context, plain_frame, plain_stack};
-ghost use Rattle.lab_dap_moves.specs.Stands.{is_behind_call, is_call, is_deeper, is_shallower, nowhere, stand_by, stand_of, stand_on};
+ghost use Rattle.lab_dap_moves.specs.Stands.{is_behind_call, is_call, is_deeper, nowhere, stand_by, stand_of, stand_on};
 
 use om_code::{Instr, Program};
 use om_memory::{Control, Frame, Stack};

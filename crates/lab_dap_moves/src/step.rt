@@ -140,7 +140,7 @@ fn why_there(
     before: &Before,
 ) -> AllocResult<Option<Why>>
     ensures { IfOk result
-        (λ why. why ≡ why_there marks.now errand.now before.stand before.held.items machine.now) }
+        (λ why. why ≡ why_there marks.now errand.now before.now.stand before.now.held.items machine.now) }
 {
     let now = stand_of(machine, errand.worker);
     let stop = watch_stop(alloc, machine, before.held.as_slice(), errand.worker)?;
