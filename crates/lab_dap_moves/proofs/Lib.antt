@@ -2,3 +2,4 @@ pub mod Walking
 pub mod Standing
 pub mod LineBacks
 pub mod Renewals
+pub mod OnOk

@@ -1,6 +1,6 @@
 -- That a line back is one.
 use Rattle.std.proofs.Common.{◌≡◌, refl, sym, ap, ◌∙◌, ◌<◌, ◌≤◌, ◌-◌, ◌+◌, zero, suc, true, false, None, Some, ℕ, Option}
-use Rattle.std.proofs.Common.{Bool, cond, arith, List}
+use Rattle.std.proofs.Common.{Bool, cond, arith, List, subst}
 use Rattle.om_book.specs.Books.{BookView, is_full, machine_of}
 use Rattle.om_book_journal.specs.declared.command.Command.TheVariants as call
 use Rattle.om_shell_debugger.specs.Calls.{undo_reply_of, with_debugger_call}
@@ -66,29 +66,34 @@ refused_back from worker most b (undo_reply.Conflict serial other object) reason
     ap machine_of (room_book worker b room) ∙ undo_leaves b worker
     ∙ refused_same (machine_of b) worker (ap is_undone is) in
     let same : why.Refused serial other object (last_serial (own_steps worker (machine_of b))) ≡ reason = cc e in
-    rw same at record {
+    let no : NotBack from worker most b
+    (why.Refused serial other object (last_serial (own_steps worker (machine_of b)))) = record {
       same = leaves;
       told = (
         ap (λ m. undo_reply_of m worker) leaves ∙ is,
         ap (λ m. last_serial (own_steps worker m)) (sym leaves),
       );
-    }
+    } in
+    subst (NotBack from worker most b) same no
 refused_back from worker most b undo_reply.Nothing reason room is e =
     let leaves : machine_of (back_book worker b) ≡ machine_of b =
     ap machine_of (room_book worker b room) ∙ undo_leaves b worker
     ∙ refused_same (machine_of b) worker (ap is_undone is) in
     let same : why.Nothing ≡ reason = cc e in
-    rw same at record { same = leaves; told = ap (λ m. undo_reply_of m worker) leaves ∙ is }
+    let no : NotBack from worker most b why.Nothing =
+    record { same = leaves; told = ap (λ m. undo_reply_of m worker) leaves ∙ is } in
+    subst (NotBack from worker most b) same no
 
 not_back_by : (from : Stand) (worker most : ℕ) (b : BookView) (full : Bool) (reason : Why) → is_full b ≡ full
     → cond full (Some why.Full) (not_undone (undo_reply_of (machine_of b) worker) (own_steps worker (machine_of b)))
     ≡ Some reason → NotBack from worker most b reason
 not_back_by from worker most b true reason full e =
     let same : why.Full ≡ reason = cc e in
-    rw same at record {
+    let no : NotBack from worker most b why.Full = record {
       same = ap machine_of (full_book worker b full);
       told = ap is_full (full_book worker b full) ∙ full;
-    }
+    } in
+    subst (NotBack from worker most b) same no
 not_back_by from worker most b false reason full e =
     refused_back from worker most b (undo_reply_of (machine_of b) worker) reason full refl e
 
@@ -232,9 +237,9 @@ pub is_line_back : (from : Stand) (worker : ℕ) (b after : BookView) (moved : M
     → back_from 10000 0 from worker b ≡ record { moved = moved; book = after }
     → WentBack 10000 from worker b after moved.steps moved.why
 is_line_back from worker b after moved e =
-    let came = rw e at came_back 10000 0 from worker b in
+    let came = subst (CameBack 10000 0 from worker b) e (came_back 10000 0 from worker b) in
     let same : came.n ≡ moved.steps = sym (took_zero came.n) ∙ sym came.count in
-    rw same at came.back
+    subst (λ n. WentBack 10000 from worker b after n moved.why) same came.back
 
 allowed_is : (reply : UndoReply) (own : List Standing) → is_undone reply ≡ true → not_undone reply own ≡ None
 allowed_is (undo_reply.Undone serial line) own e = refl
@@ -249,10 +254,11 @@ takes_by false worker b c p = p
 pub takes_one : (from : Stand) (worker : ℕ) (b : BookView) → is_full b ≡ false → may_undo worker (machine_of b) ≡ true
     → 0 < (back_from 10000 0 from worker b).moved.steps
 takes_one from worker b room allowed =
-    let done : undone_why worker b ≡ None =
-    rw room (allowed_is (undo_reply_of (machine_of b) worker) (own_steps worker (machine_of b)) allowed) in
+    let free = allowed_is (undo_reply_of (machine_of b) worker) (own_steps worker (machine_of b)) allowed in
+    let done : undone_why worker b ≡ None = rw room free in
     let rest = came_back 9999 1 from worker (back_book worker b) in
     let more : 0 < (back_from 9999 1 from worker (back_book worker b)).moved.steps = omega (arith, rest.count) in
-    rw back_came 10000 0 from worker b None (omega arith) done
+    let steps = ap (λ (c : Course). c.moved.steps) (back_came 10000 0 from worker b None (omega arith) done) in
+    subst (λ n. 0 < n) (sym steps)
     (takes_by (is_line_start from worker (machine_of (back_book worker b))) worker (back_book worker b)
     (back_from 9999 1 from worker (back_book worker b)) more)

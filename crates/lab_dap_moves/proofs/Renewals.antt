@@ -1,8 +1,8 @@
 -- That the same steps stand in a renewed book.
 use Rattle.std.proofs.Common.{◌≡◌, refl, sym, ap, ◌∙◌, ◌+◌, true, false, None, Some, ℕ, List, [], ◌∷◌, ◌++◌, Option, Bool}
-use Rattle.std.proofs.Common.{cond, map, length, arith, append_assoc, append-nil, length-append}
+use Rattle.std.proofs.Common.{cond, map, length, arith, append_assoc, append-nil, drop, get_or, length-append, subst, ◌<◌}
 use Rattle.std.specs.Prelude.{◌&&◌, nat_lt, not}
-use Rattle.std.proofs.lemmas.List.{map-append}
+use Rattle.std.proofs.lemmas.List.{drop_more, map-append}
 use Rattle.om_book.specs.Books.{BookView, is_full, machine_of, records_of}
 use Rattle.om_book_journal.specs.declared.command.Command.TheVariants as call
 use Rattle.om_code.specs.declared.raw.Raw.{Raw}
@@ -16,7 +16,7 @@ use Rattle.om_undo.specs.Machines.{MachineView, rules_for, state_in, step_reply}
 use Rattle.om_undo.specs.Machines as machines
 use Rattle.om_undo.specs.PlannedSteps.{is_made}
 use Rattle.om_undo_history.specs.Runs.{History, entry_for, history_with, label_of, reply_for}
-use Rattle.lab_dap_moves.specs.Renewals.{IsRenewed, can_remake, opened, remade, renewed}
+use Rattle.lab_dap_moves.specs.Renewals.{IsRenewed, can_remake, opened, remade, renewed, with_entry}
 use Rattle.lab_dap_moves.proofs.Walking.{machine_behind}
 
 with_updates : (h : History) (e : Entry) (o : Outcome) (serial line : ℕ) → is_made (reply_for serial line o) ≡ true
@@ -53,18 +53,23 @@ record Adds (b : BookView) (es : List Entry) (c : BookView) : Type 0 where
   pub made : (machine_of c).history.made ≡ (machine_of b).history.made + length es
   pub records : records_of c ≡ records_of b + length es
 
+more_records : (b : BookView) (e : Entry) → records_of (with_step b (label_of e)) ≡ records_of b + 1
+more_records b e = length-append b.journal _
+
 adds_more : (b : BookView) (e : Entry) (es : List Entry) (c : BookView) → can_remake b e ≡ true
     → Adds (with_step b (label_of e)) es c → Adds b (e ∷ es) c
 adds_more b e es c can rest =
     let left = stepped b (label_of e) (made_of b e can) in
+    let made = entry_for (machine_of b).history.made (label_of e) (step_at (rules_for (machine_of b))
+    (state_in (machine_of b)) (label_of e)) in
     record {
       start = rest.start;
       steps = rest.steps
           ∙ ap (λ (h : History). map label_of h.entries ++ map label_of es) left
-          ∙ ap (λ ls. ls ++ map label_of es) (map-append label_of (machine_of b).history.entries _)
-          ∙ append_assoc (map label_of (machine_of b).history.entries) _ (map label_of es);
+          ∙ ap (λ ls. ls ++ map label_of es) (map-append label_of (machine_of b).history.entries (made ∷ []))
+          ∙ append_assoc (map label_of (machine_of b).history.entries) (label_of e ∷ []) (map label_of es);
       made = omega (arith, rest.made, ap (λ (h : History). h.made) left);
-      records = omega (arith, rest.records, length-append b.journal _);
+      records = omega (arith, rest.records, more_records b e);
     }
 
 adds_by : (b : BookView) (e : Entry) (es : List Entry) (c : BookView) (can : Bool) → can_remake b e ≡ can
@@ -76,12 +81,13 @@ adds_by b e es c false can rest is = absurd (cc is)
 adds : (b : BookView) (es : List Entry) (c : BookView) → remade b es ≡ Some c → Adds b es c
 adds b [] c is =
     let same : b ≡ c = cc is in
-    rw same at record {
+    let none : Adds b [] b = record {
       start = refl;
-      steps = sym (append-nil _);
+      steps = sym (append-nil (map label_of (machine_of b).history.entries));
       made = omega arith;
       records = omega arith;
-    }
+    } in
+    subst (Adds b []) same none
 adds b (e ∷ es) c is = adds_by b e es c (can_remake b e) refl (adds (with_step b (label_of e)) es) is
 
 pub is_renewed : (program : Raw) (old new : BookView) → renewed program old ≡ Some new → IsRenewed program old new
@@ -90,6 +96,18 @@ is_renewed program old new is =
     record {
       start = all.start;
       steps = all.steps;
-      made = all.made;
-      records = all.records;
+      made = let m = all.made in omega (arith, m);
+      records = let r = all.records in omega (arith, r);
     }
+
+pub remade_here : (b : BookView) (e : Entry) (es : List Entry) → can_remake b e ≡ true
+    → remade b (e ∷ es) ≡ remade (with_entry b e) es
+remade_here b e es can = rw can refl
+
+pub remade_not : (b : BookView) (e : Entry) (es : List Entry) → can_remake b e ≡ false → remade b (e ∷ es) ≡ None
+remade_not b e es cannot = rw cannot refl
+
+-- what is left from an entry on
+pub next_entry : (es : List Entry) (k : ℕ) (e : Entry) → k < length es → e ≡ get_or es k e
+    → drop k es ≡ e ∷ drop (k + 1) es
+next_entry es k e within is = drop_more es k e within ∙ ap (λ x. x ∷ drop (k + 1) es) (sym is)

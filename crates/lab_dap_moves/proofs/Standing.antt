@@ -1,6 +1,6 @@
 -- The steps that stand, before and behind an undo.
 use Rattle.std.proofs.Common.{◌≡◌, refl, sym, ap, ◌∙◌, true, false, None, Some, ℕ, List, [], ◌∷◌, ◌++◌, Option, Bool, map}
-use Rattle.std.proofs.Common.{append-nil, arith, cond, get_or, length, length-append, suc, take, ◌-◌, ◌+◌}
+use Rattle.std.proofs.Common.{append-nil, arith, cond, get_or, length, length-append, subst, suc, take, ◌-◌, ◌+◌}
 use Rattle.std.proofs.Math.Seq.{take-append_seam}
 use Rattle.std.proofs.lemmas.Bool.Decides.{Decides-eqb}
 use Rattle.std.proofs.lemmas.List.{map-append}
@@ -66,13 +66,15 @@ last_by : (w : ℕ) (e : Entry) (es : List Entry) (o : Option Place) (is_own : B
     → last_or_first o is_own e es ≡ Some p → IsLast w (e ∷ es) p
 last_by w e es (Some q) is_own p none some h is =
     let same : place_behind e q ≡ p = cc is in
-    rw same at further_on w e es q is_own h (some q refl)
+    subst (IsLast w (e ∷ es)) same (further_on w e es q is_own h (some q refl))
 last_by w e es None true p none some h is =
-    let same : record { earlier = []; entry = e; later = es } ≡ p = cc is in
-    rw same at record {
+    let here : Place = record { earlier = []; entry = e; later = es } in
+    let same : here ≡ p = cc is in
+    let last : IsLast w (e ∷ es) here = record {
       own = own_first w e es h ∙ ap (λ l. step_of e ∷ l) (none refl);
       rest = none refl;
-    }
+    } in
+    subst (IsLast w (e ∷ es)) same last
 last_by w e es None false p none some h is = absurd (cc is)
 
 last_own : (w : ℕ) (es : List Entry) (p : Place) → last_place w es ≡ Some p → IsLast w es p
@@ -163,7 +165,9 @@ own_last w (e ∷ es) = own_last_by w e es (e.worker == w) (own_last w es)
 no_place_behind : (w : ℕ) (es : List Entry) (e : Entry) → (e.worker == w) ≡ true
     → last_place w (es ++ e ∷ []) ≡ Some (record { earlier = es; entry = e; later = [] })
 no_place_behind w [] e own = rw own refl
-no_place_behind w (x ∷ xs) e own = rw no_place_behind w xs e own refl
+no_place_behind w (x ∷ xs) e own =
+    let rest = no_place_behind w xs e own in
+    ap (λ o. last_or_first o (x.worker == w) x (xs ++ e ∷ [])) rest
 
 -- no later step conflicts with the last one of all
 last_is_undone : (r : Rules) (es : List Entry) (e : Entry)
@@ -214,7 +218,7 @@ all_by : (n w : ℕ) (m : MachineView) (es : List Entry) → m.history.entries �
 all_by n w m [] is h = absurd (cc h)
 all_by n w m (x ∷ xs) is h =
     let s = split x xs in
-    let own = own_by_last n w s.init s.last (rw s.is at h) in
+    let own = own_by_last n w s.init s.last (subst (λ l. last_worker n (map step_of l) ≡ Some w) s.is h) in
     let steps : map step_of (x ∷ xs) ≡ map step_of s.init ++ step_of s.last ∷ [] =
     ap (map step_of) s.is ∙ map-append step_of s.init (s.last ∷ []) in
     ap (map step_of) (undone_entries (rules_for m) m.history w s.init s.last (is ∙ s.is) own)
@@ -226,5 +230,5 @@ pub all_popped : (n w : ℕ) (b : BookView) (old new : List Standing) → old �
     → last_worker n old ≡ Some w → new ≡ take (length old - 1) old → new ≡ all_steps (machine_of (undo_book w b))
 all_popped n w b old new is last pop =
     pop ∙ ap (λ l. take (length l - 1) l) is
-    ∙ sym (all_by n w (machine_of b) (machine_of b).history.entries refl (rw is at last))
+    ∙ sym (all_by n w (machine_of b) (machine_of b).history.entries refl (subst (λ l. last_worker n l ≡ Some w) is last))
     ∙ ap all_steps (sym (undo_leaves b w))

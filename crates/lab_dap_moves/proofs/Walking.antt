@@ -6,7 +6,9 @@ use Rattle.om_book_journal.specs.Growing.{left_by-snoc}
 use Rattle.om_book_journal.specs.Runs.{after}
 use Rattle.om_book_journal.specs.declared.command.Command.{Command}
 use Rattle.om_shell_debugger.specs.Calls.{with_debugger_call}
-use Rattle.om_shell_debugger.specs.Runs.{after_move, behind_move}
+use Rattle.om_shell_debugger.specs.Runs.{after_move, behind_move, planned_move}
+use Rattle.om_undo.specs.Machines.{MachineView}
+use Rattle.om_undo.specs.PlannedSteps.{PlannedView, planned_at}
 use Rattle.om_shell_debugger.specs.declared.marks.Marks.{Marks}
 use Rattle.om_state.specs.declared.step.Label.{Label}
 use Rattle.om_state.specs.declared.step.Choice.{Choice}
@@ -132,3 +134,23 @@ all_came (suc n) steps last marks b o p h =
     let same : suc n - 1 ≡ n = omega arith in
     rw same (ap (λ x. by_last x steps last marks b
     (λ worker. all_from n (steps + 1) worker marks (undo_book worker b))) h)
+
+-- ---- a move that was planned
+
+-- the label of a planned move, and the machine where it was planned
+pub record IsPlanned (m : MachineView) (o : Option Label) (p : PlannedView) : Type 0 where
+  pub label : o ≡ Some p.label
+  pub machine : p.machine ≡ m
+
+pub is_planned : (m : MachineView) (o : Option Label) (p : PlannedView) → planned_move m o ≡ Some p → IsPlanned m o p
+is_planned m None p e = absurd (cc e)
+is_planned m (Some label) p e =
+    let here : planned_at m label ≡ p = cc e in
+    record {
+      label = ap (λ (q : PlannedView). Some q.label) here;
+      machine = ap (λ (q : PlannedView). q.machine) (sym here);
+    }
+
+pub none_planned : (m : MachineView) (o : Option Label) → planned_move m o ≡ None → o ≡ None
+none_planned m None e = refl
+none_planned m (Some label) e = absurd (cc e)

@@ -197,8 +197,8 @@ pub fn back_alone(alloc: Global, book: &mut Book, marks: &Marks, worker: u8) -> 
         steps += 1;
         let line = last_line(own.as_slice());
         let held = before.held.as_slice();
-        let why = far_there(alloc, book.machine(), marks, LastOf { worker, line }, held)?;
-        if let Some(why) = why {
+        let there = far_there(alloc, book.machine(), marks, LastOf { worker, line }, held)?;
+        if let Some(why) = there {
             return Ok(Moved { worker, steps, why });
         }
         left -= 1;

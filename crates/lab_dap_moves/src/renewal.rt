@@ -6,6 +6,7 @@ ghost use Rattle.om_undo_history.specs.Runs.{label_of};
 ghost use Rattle.lab_dap_moves.specs.Renewals.{IsRenewed, can_remake, if_all, remade, renewed, with_entry};
 
 use om_book::Book;
+use om_book_journal::replies::let_go;
 use om_code::Program;
 use om_seq::AllocResult;
 use om_shell_debugger::calls::take;
@@ -23,7 +24,7 @@ fn remake_one(alloc: Global, book: &mut Book, entry: &Entry) -> AllocResult<bool
     }
     let step = book.machine().plan(alloc, entry.worker, &entry.choice)?;
     if !step.is_possible() {
-        drop(step);
+        let_go(step);
         return Ok(false);
     }
     take(alloc, book, step)?;

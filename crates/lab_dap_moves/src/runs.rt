@@ -10,6 +10,7 @@ use crate::moved::{Moved, Why};
 use crate::stand::stand_of;
 use crate::step::{Aim, Came, Errand, fault_of, make};
 use om_book::Book;
+use om_book_journal::replies::let_go;
 use om_code::frame::Fault;
 use om_seq::AllocResult;
 use om_shell_commands::Stop;
@@ -66,7 +67,7 @@ fn moves(alloc: Global, book: &mut Book, marks: &Marks, step: PlannedStep) -> Al
     ensures after { OnOk result (book.new ≡ behind_move book.old (Some step.label)) }
 {
     if book.is_full() {
-        drop(step);
+        let_go(step);
         return Ok(Came::Not(Why::Full));
     }
     let errand = Errand {

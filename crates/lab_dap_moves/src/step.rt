@@ -13,6 +13,7 @@ ghost use Rattle.lab_dap_moves.specs.Steps.{arrival, break_why, came_of, fault_o
 use crate::moved::Why;
 use crate::stand::{Stand, is_deeper, stand_of};
 use om_book::Book;
+use om_book_journal::replies::let_go;
 use om_code::frame::Fault;
 use om_memory::Control;
 use om_seq::AllocResult;
@@ -192,7 +193,7 @@ pub(crate) fn make(
     let before = match Before::of(alloc, book.machine(), errand.worker, watches) {
         Ok(before) => before,
         Err(error) => {
-            drop(step);
+            let_go(step);
             return Err(error);
         }
     };
@@ -250,9 +251,9 @@ pub(crate) fn step_once(
     }
     let step = book.machine().plan(alloc, errand.worker, choice)?;
     if !step.is_possible() {
-        drop(step);
-        let why = hindrance(alloc, book.machine(), errand.worker, choice)?;
-        return Ok(Came::Not(why));
+        let_go(step);
+        let reason = hindrance(alloc, book.machine(), errand.worker, choice)?;
+        return Ok(Came::Not(reason));
     }
     match make(alloc, book, marks, errand, step)? {
         Some(why) => Ok(Came::Last(why)),

@@ -112,9 +112,11 @@ pub(crate) fn undo_once(
         return Ok(Some(Why::Full));
     }
     undo(alloc, book, worker)?;
-    let why = not_undone(undo_told(book), own.as_slice());
-    if why.is_none() {
-        own.pop();
+    match not_undone(undo_told(book), own.as_slice()) {
+        Some(why) => Ok(Some(why)),
+        None => {
+            own.pop();
+            Ok(None)
+        }
     }
-    Ok(why)
 }
