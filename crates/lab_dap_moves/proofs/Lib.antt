@@ -3,3 +3,4 @@ pub mod Standing
 pub mod LineBacks
 pub mod Renewals
 pub mod OnOk
+pub mod Items

@@ -1,8 +1,8 @@
 -- That the same steps stand in a renewed book.
 use Rattle.std.proofs.Common.{◌≡◌, refl, sym, ap, ◌∙◌, ◌+◌, true, false, None, Some, ℕ, List, [], ◌∷◌, ◌++◌, Option, Bool}
-use Rattle.std.proofs.Common.{cond, map, length, arith, append_assoc, append-nil, drop, get_or, length-append, subst, ◌<◌}
+use Rattle.std.proofs.Common.{cond, map, length, arith, append_assoc, append-nil, length-append, subst}
 use Rattle.std.specs.Prelude.{◌&&◌, nat_lt, not}
-use Rattle.std.proofs.lemmas.List.{drop_more, map-append}
+use Rattle.std.proofs.lemmas.List.{map-append}
 use Rattle.om_book.specs.Books.{BookView, is_full, machine_of, records_of}
 use Rattle.om_book_journal.specs.declared.command.Command.TheVariants as call
 use Rattle.om_code.specs.declared.raw.Raw.{Raw}
@@ -106,8 +106,3 @@ remade_here b e es can = rw can refl
 
 pub remade_not : (b : BookView) (e : Entry) (es : List Entry) → can_remake b e ≡ false → remade b (e ∷ es) ≡ None
 remade_not b e es cannot = rw cannot refl
-
--- what is left from an entry on
-pub next_entry : (es : List Entry) (k : ℕ) (e : Entry) → k < length es → e ≡ get_or es k e
-    → drop k es ≡ e ∷ drop (k + 1) es
-next_entry es k e within is = drop_more es k e within ∙ ap (λ x. x ∷ drop (k + 1) es) (sym is)

@@ -1,13 +1,13 @@
 -- Moves of many steps, one step at a time.
 use Rattle.std.proofs.Common.{◌≡◌, refl, sym, ap, ◌∙◌, ◌<◌, ◌≤◌, ◌-◌, ◌+◌, zero, suc, true, false, None, Some, ℕ, Option}
-use Rattle.std.proofs.Common.{Bool, cond, arith}
+use Rattle.std.proofs.Common.{Bool, cond, arith, List, map}
 use Rattle.om_book.specs.Books.{BookView, is_full, machine_of}
 use Rattle.om_book_journal.specs.Growing.{left_by-snoc}
 use Rattle.om_book_journal.specs.Runs.{after}
 use Rattle.om_book_journal.specs.declared.command.Command.{Command}
 use Rattle.om_shell_debugger.specs.Calls.{with_debugger_call}
 use Rattle.om_shell_debugger.specs.Runs.{after_move, behind_move, planned_move}
-use Rattle.om_undo.specs.Machines.{MachineView}
+use Rattle.om_undo.specs.Machines.{MachineView, state_in}
 use Rattle.om_undo.specs.PlannedSteps.{PlannedView, planned_at}
 use Rattle.om_shell_debugger.specs.declared.marks.Marks.{Marks}
 use Rattle.om_state.specs.declared.step.Label.{Label}
@@ -19,8 +19,11 @@ use Rattle.lab_dap_moves.specs.declared.runs.First.{First}
 use Rattle.lab_dap_moves.specs.declared.stand.Stand.{Stand}
 use Rattle.lab_dap_moves.specs.declared.step.Came.{Came}
 use Rattle.lab_dap_moves.specs.declared.step.Errand.{Errand}
-use Rattle.lab_dap_moves.specs.Backs.{back_from, by_undo}
-use Rattle.lab_dap_moves.specs.FarBacks.{all_from, alone_from, all_steps, by_alone, by_last, far_why, last_worker, undo_book}
+use Rattle.lab_dap_moves.specs.Backs.{back_from, by_undo, is_line_start}
+use Rattle.lab_dap_moves.specs.FarBacks.{all_from, alone_from, all_steps, by_alone, by_last, by_why, far_there, far_why}
+use Rattle.lab_dap_moves.specs.FarBacks.{last_worker, own_line, undo_book}
+use Rattle.om_shell_debugger.specs.Stops.{watched}
+use Rattle.om_shell_debugger.specs.declared.stops.Watched.{Watched}
 use Rattle.lab_dap_moves.specs.Forward.{by_came, course, walk}
 use Rattle.lab_dap_moves.specs.Runs.{by_first, first_of, run_from}
 use Rattle.lab_dap_moves.specs.Steps.{can_make, came_of, step_book}
@@ -154,3 +157,66 @@ is_planned m (Some label) p e =
 pub none_planned : (m : MachineView) (o : Option Label) → planned_move m o ≡ None → o ≡ None
 none_planned m None e = refl
 none_planned m (Some label) e = absurd (cc e)
+
+-- ---- what comes behind an undo that was done
+
+pub back_arrives : (left steps : ℕ) (from : Stand) (worker : ℕ) (b : BookView) → 0 < left
+    → undone_why worker b ≡ None → is_line_start from worker (machine_of (back_book worker b)) ≡ true
+    → back_from left steps from worker b ≡ course worker (steps + 1) why.Arrived (back_book worker b)
+back_arrives left steps from worker b p none start =
+    back_came left steps from worker b None p none
+    ∙ ap (λ x. cond x (course worker (steps + 1) why.Arrived (back_book worker b))
+    (back_from (left - 1) (steps + 1) from worker (back_book worker b))) start
+
+pub back_goes : (left steps : ℕ) (from : Stand) (worker : ℕ) (b : BookView) → 0 < left
+    → undone_why worker b ≡ None → is_line_start from worker (machine_of (back_book worker b)) ≡ false
+    → back_from (left - 1) (steps + 1) from worker (back_book worker b) ≡ back_from left steps from worker b
+back_goes left steps from worker b p none start =
+    sym (back_came left steps from worker b None p none
+    ∙ ap (λ x. cond x (course worker (steps + 1) why.Arrived (back_book worker b))
+    (back_from (left - 1) (steps + 1) from worker (back_book worker b))) start)
+
+back_is_by : (full : Bool) (o : Option Why) (b c : BookView) → cond full (Some why.Full) o ≡ None → cond full b c ≡ c
+back_is_by true o b c e = absurd (cc e)
+back_is_by false o b c e = refl
+
+-- where a step was taken back, there was room to record it
+pub back_is_undo : (w : ℕ) (b : BookView) → undone_why w b ≡ None → back_book w b ≡ undo_book w b
+back_is_undo w b e = back_is_by (is_full b) _ b (undo_book w b) e
+
+pub far_is : (marks : Marks) (w : ℕ) (b after : BookView) (line : Option ℕ) (held : List Watched)
+    → after ≡ undo_book w b → line ≡ own_line w (all_steps (machine_of after))
+    → held ≡ map (watched (state_in (machine_of b))) marks.watches
+    → far_there marks w line held (machine_of after) ≡ far_why marks w b
+far_is marks w b after line held is line_is held_is =
+    let found = line_is ∙ ap (λ x. own_line w (all_steps (machine_of x))) is in
+    ap (λ x. far_there marks w x held (machine_of after)) found
+    ∙ ap (λ x. far_there marks w (own_line w (all_steps (machine_of (undo_book w b)))) x (machine_of after)) held_is
+    ∙ ap (λ x. far_there marks w (own_line w (all_steps (machine_of (undo_book w b))))
+    (map (watched (state_in (machine_of b))) marks.watches) (machine_of x)) is
+
+pub alone_stops : (left steps : ℕ) (marks : Marks) (worker : ℕ) (b : BookView) (reason : Why) → 0 < left
+    → undone_why worker b ≡ None → far_why marks worker b ≡ Some reason
+    → alone_from left steps marks worker b ≡ course worker (steps + 1) reason (back_book worker b)
+alone_stops left steps marks worker b reason p none far =
+    alone_came left steps marks worker b None p none
+    ∙ ap (λ o. by_why o worker (steps + 1) (back_book worker b)
+    (alone_from (left - 1) (steps + 1) marks worker (back_book worker b))) far
+
+pub alone_goes : (left steps : ℕ) (marks : Marks) (worker : ℕ) (b : BookView) → 0 < left
+    → undone_why worker b ≡ None → far_why marks worker b ≡ None
+    → alone_from (left - 1) (steps + 1) marks worker (back_book worker b) ≡ alone_from left steps marks worker b
+alone_goes left steps marks worker b p none far =
+    sym (alone_came left steps marks worker b None p none
+    ∙ ap (λ o. by_why o worker (steps + 1) (back_book worker b)
+    (alone_from (left - 1) (steps + 1) marks worker (back_book worker b))) far)
+
+pub all_goes : (left steps last : ℕ) (marks : Marks) (b : BookView) (w : ℕ) → 0 < left
+    → last_worker b.start.workers (all_steps (machine_of b)) ≡ Some w → is_full b ≡ false
+    → far_why marks w b ≡ None
+    → all_from (left - 1) (steps + 1) w marks (undo_book w b) ≡ all_from left steps last marks b
+all_goes left steps last marks b w p some room far =
+    sym (all_came left steps last marks b (Some w) p some
+    ∙ ap (λ x. cond x (course w steps why.Full b) (by_why (far_why marks w b) w (steps + 1) (undo_book w b)
+    (all_from (left - 1) (steps + 1) w marks (undo_book w b)))) room
+    ∙ ap (λ o. by_why o w (steps + 1) (undo_book w b) (all_from (left - 1) (steps + 1) w marks (undo_book w b))) far)

@@ -1,4 +1,4 @@
-//! omplab dap: moves of a book as an editor asks for them: steps in, over, out, runs, and the ways back of a line or all.
+//! omplab dap: moves of a book as an editor asks for them: steps in, over, out; runs; a line back, all back.
 //!
 //! Each move answers how many steps were made or taken back, and why it ended (`Moved`, `Why`). Every step and
 //! every undo is a call that the book records.
