@@ -1,10 +1,10 @@
 -- That a line back is one.
-use Rattle.std.proofs.Common.{◌≡◌, refl, sym, ap, ◌∙◌, ◌<◌, ◌≤◌, ◌-◌, ◌+◌, zero, suc, true, false, None, Some, ℕ, Option}
+use Rattle.std.proofs.Common.{◌≡◌, refl, sym, ap, ◌∙◌, ◌<◌, ◌+◌, zero, suc, true, false, None, Some, ℕ, Option}
 use Rattle.std.proofs.Common.{Bool, cond, arith, List, subst}
 use Rattle.om_book.specs.Books.{BookView, is_full, machine_of}
 use Rattle.om_book_journal.specs.declared.command.Command.TheVariants as call
 use Rattle.om_shell_debugger.specs.Calls.{undo_reply_of, with_debugger_call}
-use Rattle.om_undo.specs.Machines.{MachineView, rules_for, with_undo}
+use Rattle.om_undo.specs.Machines.{MachineView, with_undo}
 use Rattle.om_undo_history.specs.Records.{is_undone}
 use Rattle.om_undo_history.specs.Runs.{History, Place, history_without, last_place}
 use Rattle.om_undo_history.specs.declared.reply.UndoReply.{UndoReply}

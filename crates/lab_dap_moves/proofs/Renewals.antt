@@ -1,5 +1,5 @@
 -- That the same steps stand in a renewed book.
-use Rattle.std.proofs.Common.{◌≡◌, refl, sym, ap, ◌∙◌, ◌+◌, true, false, None, Some, ℕ, List, [], ◌∷◌, ◌++◌, Option, Bool}
+use Rattle.std.proofs.Common.{◌≡◌, refl, sym, ap, ◌∙◌, ◌+◌, true, false, None, Some, ℕ, List, [], ◌∷◌, ◌++◌, Bool}
 use Rattle.std.proofs.Common.{cond, map, length, arith, append_assoc, append-nil, length-append, subst}
 use Rattle.std.specs.Prelude.{◌&&◌, nat_lt, not}
 use Rattle.std.proofs.lemmas.List.{map-append}
@@ -13,7 +13,6 @@ use Rattle.om_state.specs.declared.step.Label.{Label}
 use Rattle.om_state.specs.declared.step.Outcome.{Outcome}
 use Rattle.om_state.specs.declared.step.Outcome.TheVariants as outcome
 use Rattle.om_undo.specs.Machines.{MachineView, rules_for, state_in, step_reply}
-use Rattle.om_undo.specs.Machines as machines
 use Rattle.om_undo.specs.PlannedSteps.{is_made}
 use Rattle.om_undo_history.specs.Runs.{History, entry_for, history_with, label_of, reply_for}
 use Rattle.lab_dap_moves.specs.Renewals.{IsRenewed, can_remake, opened, remade, renewed, with_entry}

@@ -1,6 +1,6 @@
 -- The steps that stand, before and behind an undo.
 use Rattle.std.proofs.Common.{◌≡◌, refl, sym, ap, ◌∙◌, true, false, None, Some, ℕ, List, [], ◌∷◌, ◌++◌, Option, Bool, map}
-use Rattle.std.proofs.Common.{append-nil, arith, cond, get_or, length, length-append, subst, suc, take, ◌-◌, ◌+◌}
+use Rattle.std.proofs.Common.{append-nil, arith, cond, get_or, length, length-append, subst, suc, take, ◌-◌}
 use Rattle.std.proofs.Math.Seq.{take-append_seam}
 use Rattle.std.proofs.lemmas.Bool.Decides.{Decides-eqb}
 use Rattle.std.proofs.lemmas.List.{map-append}
@@ -8,17 +8,15 @@ use Rattle.std.proofs.lemmas.Option.{slice_get-get_or}
 use Rattle.std.specs.Option.{option_or}
 use Rattle.std.specs.Prelude.{◌==◌, nat_lt, option_map}
 use Rattle.om_book.specs.Books.{BookView, machine_of}
-use Rattle.om_book_journal.specs.declared.command.Command.TheVariants as call
-use Rattle.om_shell_debugger.specs.Calls.{undo_reply_of, with_debugger_call}
 use Rattle.om_state.specs.Rules.{Rules}
 use Rattle.om_state.specs.declared.step.Entry.{Entry}
 use Rattle.om_undo.specs.Machines.{MachineView, rules_for, with_undo}
 use Rattle.om_undo_history.specs.Records.{is_undone}
-use Rattle.om_undo_history.specs.Runs.{History, Place, after_undo, history_without, last_or_first, last_place, place_behind, reply_against, reply_at, reply_to_undo}
+use Rattle.om_undo_history.specs.Runs.{History, Place, after_undo, history_without, last_or_first, last_place, place_behind, reply_against, reply_at}
 use Rattle.om_undo_history.specs.declared.reply.UndoReply.{UndoReply}
 use Rattle.om_undo_history.specs.declared.reply.UndoReply.TheVariants as undo_reply
 use Rattle.lab_dap_moves.specs.declared.undo.Standing.{Standing}
-use Rattle.lab_dap_moves.specs.FarBacks.{all_steps, last_worker, own_line, undo_book, within, worker_by}
+use Rattle.lab_dap_moves.specs.FarBacks.{all_steps, last_worker, own_line, undo_book, worker_by}
 use Rattle.lab_dap_moves.specs.LineBacks.{may_undo}
 use Rattle.lab_dap_moves.specs.Undos.{back_book, last_line, last_of, own_made, own_steps, step_of, undone_why}
 use Rattle.lab_dap_moves.proofs.LineBacks.{is_back, undo_leaves}

@@ -1,5 +1,5 @@
 -- Back by an instruction, and by a line.
-use Rattle.std.specs.Prelude.{ℕ, zero, suc, ◌+◌, Bool, true, false, not, ◌&&◌, cond, nat_eq, Option, None, Some}
+use Rattle.std.specs.Prelude.{ℕ, zero, suc, ◌+◌, Bool, false, not, ◌&&◌, cond, nat_eq, Option, None, Some}
 use Rattle.om_book.specs.Books.{BookView, machine_of}
 use Rattle.om_undo.specs.Machines.{MachineView}
 use Rattle.lab_dap_moves.specs.declared.moved.Why.{Why}

@@ -1,4 +1,4 @@
-use Rattle.std.proofs.Common.{◌≡◌, ◌+◌, map}
+use Rattle.std.proofs.Common.{◌≡◌, ◌+◌}
 use Rattle.om_book.specs.Books.{machine_of}
 use Rattle.lab_dap_moves.specs.FarBacks.{all_from, all_steps}
 use Rattle.lab_dap_moves.proofs.far_back.all_back.Given as goal

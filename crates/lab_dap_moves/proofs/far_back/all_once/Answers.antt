@@ -1,4 +1,4 @@
-use Rattle.std.proofs.Common.{◌≡◌, ◌∙◌, ◌-◌, ap, arith, length, sym, take}
+use Rattle.std.proofs.Common.{◌≡◌, ◌∙◌, ◌-◌, ap, arith, length, take}
 use Rattle.std.specs.Prelude.{vec_len}
 use Rattle.om_book.specs.Books.{machine_of}
 use Rattle.lab_dap_moves.specs.FarBacks.{all_steps, undo_book}

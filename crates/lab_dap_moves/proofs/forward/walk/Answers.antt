@@ -1,4 +1,4 @@
-use Rattle.std.proofs.Common.{refl, sym, ap, ◌∙◌, arith}
+use Rattle.std.proofs.Common.{sym, ◌∙◌, arith}
 use Rattle.lab_dap_moves.proofs.Walking.{step_start, walk_came, walk_ends}
 use Rattle.lab_dap_moves.proofs.forward.walk.Goals as goal
 

@@ -1,5 +1,5 @@
-use Rattle.std.proofs.Common.{◌≡◌, ◌∙◌, ap, sym, false, true, None}
-use Rattle.lab_dap_moves.specs.Renewals.{can_remake, remade, with_entry}
+use Rattle.std.proofs.Common.{◌≡◌, ◌∙◌, ap, sym, false, true}
+use Rattle.lab_dap_moves.specs.Renewals.{can_remake, remade}
 use Rattle.lab_dap_moves.proofs.Items.{next_item}
 use Rattle.lab_dap_moves.proofs.Renewals.{remade_here, remade_not}
 use Rattle.lab_dap_moves.proofs.renewal.remake.Goals as goal

@@ -1,4 +1,3 @@
-use Rattle.std.proofs.Common.{◌≡◌, ◌∙◌, sym}
 use Rattle.lab_dap_moves.proofs.Renewals.{is_renewed}
 use Rattle.lab_dap_moves.proofs.renewal.renewed.Goals as goal
 

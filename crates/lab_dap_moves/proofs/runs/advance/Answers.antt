@@ -1,5 +1,4 @@
-use Rattle.std.proofs.Common.{◌∙◌, ap, refl, sym}
-use Rattle.om_book.specs.Books.{machine_of}
+use Rattle.std.proofs.Common.{◌∙◌, ap, sym}
 use Rattle.om_shell_debugger.specs.Runs.{behind_move}
 use Rattle.lab_dap_moves.specs.Runs.{first_by}
 use Rattle.lab_dap_moves.specs.declared.runs.First.TheVariants as first
