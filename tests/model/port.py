@@ -778,6 +778,7 @@ NAMES = {
     'List': 'list',
     'FileList': 'list',
     'Fill': 'list',
+    'Text': 'text',
     'Include': 'include',
     'Storage': 'storage',
     'Attribute': 'storage',
@@ -899,12 +900,16 @@ def listing(source, changes, lacks):
 
 def main():
     """Ports the source on the standard input."""
+    from port_prints import print_edits
     from port_stages import list_edits, name_edits
     source = sys.stdin.buffer.read()
     named, names = staged(source, name_edits)
     listed, lists = staged(named, list_edits)
-    text, changes, lacks = ruled(listed)
-    told = listing(source, names, []) + listing(named, lists, []) + listing(listed, changes, lacks)
+    printed, texts = staged(listed, print_edits)
+    again, more = staged(printed, print_edits)
+    text, changes, lacks = ruled(again)
+    told = listing(source, names, []) + listing(named, lists, [])
+    told += listing(listed, texts, []) + listing(printed, more, []) + listing(again, changes, lacks)
     sys.stdout.buffer.write(text + b'====\n' + told)
 
 

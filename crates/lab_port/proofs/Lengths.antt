@@ -13,6 +13,8 @@ use Rattle.lab_port_names.specs.declared.uses.Spot.{Spot as NameSpot}
 use Rattle.lab_port_names.specs.Uses.{names_here, first_spot as first_name, mark_here as name_here, spot_behind as name_behind, marks_from as named_from}
 use Rattle.lab_port_lists.specs.declared.place.Spot.{Spot as ListSpot}
 use Rattle.lab_port_lists.specs.Places.{names_with, first_spot as first_list, mark_here as list_here, spot_behind as list_behind, marks_from as listed_from}
+use Rattle.lab_port_prints.specs.declared.place.Spot.{Spot as PrintSpot}
+use Rattle.lab_port_prints.specs.Places.{first_spot as first_print, mark_here as print_here, spot_behind as print_behind, marks_from as printed_from}
 use Rattle.lab_port.specs.declared.stage.Stage.{Stage}
 use Rattle.lab_port.specs.declared.stage.Stage.TheVariants as stages
 use Rattle.lab_port.specs.Portings.{stage_marks}
@@ -37,8 +39,14 @@ lists_length names spot (piece ∷ rest) =
     (list_behind spot (list_here names spot piece rest) piece) rest
     )
 
+prints_length : (spot : PrintSpot) (pieces : List Piece) → length (printed_from spot pieces) ≡ length pieces
+prints_length spot [] = refl
+prints_length spot (piece ∷ rest) =
+    ap suc (prints_length (print_behind spot (print_here spot piece rest) piece) rest)
+
 pub stage_fit : (stage : Stage) (pieces : List Piece) → length (stage_marks stage pieces) ≡ length pieces
 stage_fit stages.Names pieces = names_length [] (first_name pieces) pieces
 stage_fit stages.Lists pieces = lists_length [] (first_list pieces) pieces
+stage_fit stages.Texts pieces = prints_length first_print pieces
 stage_fit stages.Rules pieces =
     marks_length (facts_of (classes_of pieces)) first_place (classes_of pieces) ∙ length-map pieces class_of

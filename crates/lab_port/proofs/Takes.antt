@@ -15,6 +15,8 @@ use Rattle.lab_port_names.specs.declared.uses.Spot.{Spot as NameSpot}
 use Rattle.lab_port_names.specs.Uses.{names_here, found_at, first_spot as first_name, mark_here as name_here, mark_by as name_by, spot_behind as name_behind, marks_from as named_from}
 use Rattle.lab_port_lists.specs.declared.place.Spot.{Spot as ListSpot}
 use Rattle.lab_port_lists.specs.Places.{names_with, given_size, first_spot as first_list, mark_here as list_here, mark_by as list_by, spot_behind as list_behind, marks_from as listed_from}
+use Rattle.lab_port_prints.specs.declared.place.Spot.{Spot as PrintSpot}
+use Rattle.lab_port_prints.specs.Places.{first_spot as first_print, mark_here as print_here, mark_at as print_at, spot_behind as print_behind, marks_from as printed_from}
 use Rattle.lab_port.specs.declared.stage.Stage.{Stage}
 use Rattle.lab_port.specs.declared.stage.Stage.TheVariants as stages
 use Rattle.lab_port.specs.Portings.{stage_marks}
@@ -84,7 +86,26 @@ lists_take names spot (piece ∷ rest) (suc taken) same =
           (ap (λ k. taken_after k mark) same ∙ ap (λ t. if t then taken_by mark else suc taken - 1) later ∙ left),
     )
 
+prints_take : (spot : PrintSpot) (pieces : List Piece) (taken : ℕ)
+    → spot.taken ≡ taken
+    → Fit taken (printed_from spot pieces)
+prints_take spot [] zero same = tt
+prints_take spot [] (suc taken) same = tt
+prints_take spot (piece ∷ rest) zero same =
+    let mark = print_here spot piece rest in
+    prints_take (print_behind spot mark piece) rest (taken_by mark) (ap (λ k. taken_after k mark) same)
+prints_take spot (piece ∷ rest) (suc taken) same =
+    let mark = print_here spot piece rest in
+    let later = not_first taken in
+    let left : suc taken - 1 ≡ taken = omega arith in
+    let other = print_at spot.context piece rest in (
+      ap (λ k. if k == 0 then other else marks.Taken) same ∙ ap (λ t. if t then other else marks.Taken) later,
+      prints_take (print_behind spot mark piece) rest taken
+          (ap (λ k. taken_after k mark) same ∙ ap (λ t. if t then taken_by mark else suc taken - 1) later ∙ left),
+    )
+
 pub stage_takes : (stage : Stage) (pieces : List Piece) → Fit 0 (stage_marks stage pieces)
 stage_takes stages.Names pieces = names_take [] (first_name pieces) pieces 0 refl
 stage_takes stages.Lists pieces = lists_take [] (first_list pieces) pieces 0 refl
+stage_takes stages.Texts pieces = prints_take first_print pieces 0 refl
 stage_takes stages.Rules pieces = marks_take (facts_of (classes_of pieces)) first_place (classes_of pieces) 0 refl

@@ -73,8 +73,10 @@ abbrev pub change_list : List ℕ → List ℕ → Ported → List ℕ
 change_list file source ported =
     changes_part file source ported.names.changes.items
     ++ changes_part file ported.names.text.items ported.lists.changes.items
-    ++ changes_part file ported.lists.text.items ported.rules.changes.items
+    ++ changes_part file ported.lists.text.items ported.texts.changes.items
+    ++ changes_part file ported.texts.text.items ported.again.changes.items
+    ++ changes_part file ported.again.text.items ported.rules.changes.items
 
 -- the lines of the tokens without a form
 abbrev pub refusal_list : List ℕ → Ported → List ℕ
-refusal_list file ported = refusals_part file ported.lists.text.items ported.refusals.items
+refusal_list file ported = refusals_part file ported.again.text.items ported.refusals.items

@@ -9,6 +9,7 @@ use Rattle.lab_port_rules.specs.declared.rule.Meaning.{Meaning}
 use Rattle.lab_port_rules.specs.Marks.{marks_of}
 use Rattle.lab_port_names.specs.Uses.{name_marks, names_of}
 use Rattle.lab_port_lists.specs.Places.{list_marks, lists_of}
+use Rattle.lab_port_prints.specs.Places.{print_marks}
 use Rattle.lab_port.specs.declared.ported.Change.{Change}
 use Rattle.lab_port.specs.declared.ported.Refusal.{Refusal}
 use Rattle.lab_port.specs.declared.stage.Stage.{Stage}
@@ -47,12 +48,14 @@ refusals_from (piece ∷ rest) (mark ∷ more) = refusals_at mark piece ++ refus
 abbrev pub stage_marks : Stage → List Piece → List Mark
 stage_marks stages.Names pieces = name_marks pieces
 stage_marks stages.Lists pieces = list_marks pieces
+stage_marks stages.Texts pieces = print_marks pieces
 stage_marks stages.Rules pieces = marks_of (classes_of pieces)
 
 -- the names that stand for texts in a stage
 abbrev pub stage_names : Stage → List Piece → List Meaning
 stage_names stages.Names pieces = names_of pieces
 stage_names stages.Lists pieces = lists_of pieces
+stage_names stages.Texts pieces = []
 stage_names stages.Rules pieces = []
 
 -- the changes of some pieces in a stage, in order
@@ -67,16 +70,20 @@ changes_in stage text = stage_changes stage (pieces_of text)
 abbrev pub after : Stage → List ℕ → List ℕ
 after stage text = with_changes text 0 (changes_in stage text)
 
--- a source with its names written out, and behind that with stores for its lists
+-- a source with its names written out, behind that with stores for its lists, and behind that with a statement for each
+-- of the texts that one chooses from
 abbrev pub named_text : List ℕ → List ℕ
 named_text source = after stages.Names source
 
 abbrev pub listed_text : List ℕ → List ℕ
 listed_text source = after stages.Lists (named_text source)
 
+abbrev pub printed_text : List ℕ → List ℕ
+printed_text source = after stages.Texts (after stages.Texts (listed_text source))
+
 -- the text that a source becomes
 abbrev pub ported_text : List ℕ → List ℕ
-ported_text source = after stages.Rules (listed_text source)
+ported_text source = after stages.Rules (printed_text source)
 
 -- the tokens of a text that have no form, in order
 abbrev pub refusals_of : List ℕ → List Refusal
@@ -90,9 +97,12 @@ pub record IsStep (stage : Stage) (text : List ℕ) (step : Step) : Type 0 where
   pub made : step.text.items ≡ with_changes text 0 step.changes.items
   pub lines : line_feeds step.text.items ≡ line_feeds text
 
--- What a source becomes by three stages, and the tokens without a form in the text of the second one.
+-- What a source becomes by its stages, of which that of texts works twice, and the tokens without a form in the text before
+-- the last one.
 pub record Ports (source : List ℕ) (ported : Ported) : Type 0 where
   pub names : IsStep stages.Names source ported.names
   pub lists : IsStep stages.Lists ported.names.text.items ported.lists
-  pub rules : IsStep stages.Rules ported.lists.text.items ported.rules
-  pub refusals : ported.refusals.items ≡ refusals_of ported.lists.text.items
+  pub texts : IsStep stages.Texts ported.lists.text.items ported.texts
+  pub again : IsStep stages.Texts ported.texts.text.items ported.again
+  pub rules : IsStep stages.Rules ported.again.text.items ported.rules
+  pub refusals : ported.refusals.items ≡ refusals_of ported.again.text.items

@@ -6,6 +6,7 @@ use Rattle.lab_port_tokens.specs.declared.piece.PieceKind.TheVariants as kinds
 use Rattle.lab_port_words.specs.Texts.{without_suffix, plain_format, line_text}
 use Rattle.lab_port_names.specs.Names.{meaning_of}
 use Rattle.lab_port_lists.specs.Arrays.{array_text, declarator}
+use Rattle.lab_port_prints.specs.Printed.{statement_text}
 use Rattle.lab_port_rules.specs.declared.rule.Meaning.{Meaning}
 use Rattle.lab_port_rules.specs.declared.rule.Rule.{Rule}
 use Rattle.lab_port_rules.specs.declared.rule.Rule.TheVariants as rules
@@ -64,6 +65,7 @@ new_text names rules.Use text taken = meaning_of text names
 new_text names rules.List text taken = array_text text taken
 new_text names rules.FileList text taken = declarator text taken
 new_text names rules.Fill text taken = filled_text names
+new_text names rules.Text text taken = statement_text taken
 new_text names rule text taken = plain_text rule text taken
 
 -- a line end is a space

@@ -1,7 +1,8 @@
 //! omplab port: wider C into the accepted subset: the text with its changes, and the tokens that have no form.
 //!
-//! `port` answers what a source becomes, in three stages: names are written out (lab_port_names), lists of values
-//! become stores (lab_port_lists), and all other rules apply (lab_port_rules). Each byte that no change covers
+//! `port` answers what a source becomes, in stages: names are written out (lab_port_names), lists of values
+//! become stores (lab_port_lists), statements that choose a text become one for each text (lab_port_prints), and all
+//! other rules apply (lab_port_rules). Each byte that no change covers
 //! stays. Line feeds all stay, so each token stays on its line. `change_list` has a line for each change and each
 //! warning, and `refusal_list` says which tokens have no form.
 //!

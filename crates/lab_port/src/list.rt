@@ -27,7 +27,9 @@ pub fn change_list(
     let mut out = Vec::new(alloc);
     push_changes(&mut out, file, source, &ported.names.changes)?;
     push_changes(&mut out, file, &ported.names.text, &ported.lists.changes)?;
-    push_changes(&mut out, file, &ported.lists.text, &ported.rules.changes)?;
+    push_changes(&mut out, file, &ported.lists.text, &ported.texts.changes)?;
+    push_changes(&mut out, file, &ported.texts.text, &ported.again.changes)?;
+    push_changes(&mut out, file, &ported.again.text, &ported.rules.changes)?;
     Ok(out)
 }
 
@@ -36,7 +38,7 @@ pub fn refusal_list(alloc: Global, file: &str, ported: &Ported) -> AllocResult<V
     ensures { IfOk result (λ list. list.items ≡ refusal_list file.now ported.now) }
 {
     let mut out = Vec::new(alloc);
-    push_refusals(&mut out, file, &ported.lists.text, &ported.refusals)?;
+    push_refusals(&mut out, file, &ported.again.text, &ported.refusals)?;
     Ok(out)
 }
 

@@ -53,9 +53,13 @@ pub struct Ported {
     pub names: Step,
     /// That text, with stores for its lists.
     pub lists: Step,
+    /// That text, with a statement for each text that one chooses from.
+    pub texts: Step,
+    /// The same once more, for a second text of a statement.
+    pub again: Step,
     /// That text, with all other rules: the ported text.
     pub rules: Step,
-    /// The tokens of the text of `lists` that have no form, in order. They stand in the ported text as well.
+    /// The tokens of the text of `again` that have no form, in order. They stand in the ported text as well.
     pub refusals: Vec<Refusal>,
 }
 
@@ -67,11 +71,15 @@ pub fn port(alloc: Global, source: &[u8]) -> AllocResult<Ported>
 {
     let names = step_of(alloc, Stage::Names, source)?;
     let lists = step_of(alloc, Stage::Lists, &names.text)?;
-    let rules = step_of(alloc, Stage::Rules, &lists.text)?;
-    let refusals = refusals_of(alloc, &lists.text)?;
+    let texts = step_of(alloc, Stage::Texts, &lists.text)?;
+    let again = step_of(alloc, Stage::Texts, &texts.text)?;
+    let rules = step_of(alloc, Stage::Rules, &again.text)?;
+    let refusals = refusals_of(alloc, &again.text)?;
     Ok(Ported {
         names,
         lists,
+        texts,
+        again,
         rules,
         refusals,
     })

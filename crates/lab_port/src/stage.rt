@@ -7,6 +7,7 @@ ghost use Rattle.lab_port.specs.Portings.{stage_marks, stage_names};
 
 use lab_port_lists::{Listed, list_marks};
 use lab_port_names::{Named, name_marks};
+use lab_port_prints::print_marks;
 use lab_port_rules::{Mark, Meaning, marks_of};
 use lab_port_tokens::Piece;
 use lab_port_words::classes_of;
@@ -20,6 +21,8 @@ pub enum Stage {
     Names,
     /// Lists of values become stores.
     Lists,
+    /// Statements that print a text which they choose become one for each text.
+    Texts,
     /// All other rules apply.
     Rules,
 }
@@ -56,8 +59,20 @@ fn found_in(alloc: Global, stage: Stage, pieces: &[Piece]) -> AllocResult<Marked
             let Listed { names, marks } = list_marks(alloc, pieces)?;
             Ok(Marked { names, marks })
         }
+        Stage::Texts => unnamed(alloc, print_marks(alloc, pieces)?),
         Stage::Rules => ruled(alloc, pieces),
     }
+}
+
+// What a stage finds that has no names.
+fn unnamed(alloc: Global, marks: Vec<Mark>) -> AllocResult<Marked>
+    ensures names { IfOk result (λ found. found.names ≡ []) }
+    ensures marks { IfOk result (λ found. found.marks.items ≡ marks.items) }
+{
+    Ok(Marked {
+        names: Seq::new(alloc),
+        marks,
+    })
 }
 
 // What the last stage finds in some pieces.

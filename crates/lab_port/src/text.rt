@@ -5,6 +5,7 @@ ghost use Rattle.lab_port.specs.Texts.{is_text, text_among, fixed_text, printed_
 
 use lab_port_lists::{array_text, declarator};
 use lab_port_names::meaning_of;
+use lab_port_prints::statement_text;
 use lab_port_rules::{Meaning, Rule};
 use lab_port_tokens::{Piece, PieceKind};
 use lab_port_words::{push_format, push_line_text, push_number, push_without_suffix};
@@ -64,6 +65,7 @@ fn new_text(
         Rule::List => array_text(alloc, text, taken),
         Rule::FileList => declarator(alloc, text, taken),
         Rule::Fill => filled_text(alloc, names),
+        Rule::Text => statement_text(alloc, taken),
         _ => plain_text(alloc, rule, text, taken),
     }
 }

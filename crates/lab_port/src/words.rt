@@ -31,6 +31,7 @@ pub fn name_of(rule: Rule) -> &'static [u8]
         Rule::Enumeration | Rule::EnumerationType | Rule::EnumerationTypedef => b"enum",
         Rule::Typedef => b"typedef",
         Rule::List | Rule::FileList | Rule::Fill => b"list",
+        Rule::Text => b"text",
         Rule::Storage | Rule::Attribute => b"storage",
         Rule::Volatile => b"volatile",
         Rule::Type(word) | Rule::TypeAgain(word) => type_name(word),

@@ -27,8 +27,10 @@ abbrev pub places_of : List ℕ → Ported → List Found
 places_of source ported =
     map (changed_place source) ported.names.changes.items
     ++ map (changed_place ported.names.text.items) ported.lists.changes.items
-    ++ map (changed_place ported.lists.text.items) ported.rules.changes.items
-    ++ map (lacking_place ported.lists.text.items) ported.refusals.items
+    ++ map (changed_place ported.lists.text.items) ported.texts.changes.items
+    ++ map (changed_place ported.texts.text.items) ported.again.changes.items
+    ++ map (changed_place ported.again.text.items) ported.rules.changes.items
+    ++ map (lacking_place ported.again.text.items) ported.refusals.items
 
 abbrev pub is_like : Found → Found → Bool
 is_like one other = bytes_eq other.words one.words

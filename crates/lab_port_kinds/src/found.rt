@@ -33,9 +33,21 @@ pub(crate) fn places_of(alloc: Global, source: &[u8], ported: &Ported) -> AllocR
         alloc,
         &mut places,
         &ported.lists.text,
+        &ported.texts.changes,
+    )?;
+    push_changes(
+        alloc,
+        &mut places,
+        &ported.texts.text,
+        &ported.again.changes,
+    )?;
+    push_changes(
+        alloc,
+        &mut places,
+        &ported.again.text,
         &ported.rules.changes,
     )?;
-    push_refusals(alloc, &mut places, &ported.lists.text, &ported.refusals)?;
+    push_refusals(alloc, &mut places, &ported.again.text, &ported.refusals)?;
     Ok(places)
 }
 

@@ -14,6 +14,6 @@ mod library;
 mod mark;
 mod rule;
 
-pub use library::begins_statement;
+pub use library::{begins_statement, changed_by};
 pub use mark::{Mark, marks_of, taken_after};
 pub use rule::{Meaning, Rule};

@@ -48,7 +48,7 @@ pub(crate) fn changed_if(applies: bool, rule: Rule) -> Mark
 }
 
 /// The rule applies where this size is found, and takes so many further pieces.
-pub(crate) fn changed_by(size: Option<usize>, rule: Rule) -> Mark
+pub fn changed_by(size: Option<usize>, rule: Rule) -> Mark
     ensures { result ≡ changed_by size rule }
 {
     match size {

@@ -35,6 +35,8 @@ pub enum Rule {
     FileList,
     /// `list`: the `{` of `main`, behind which the arrays at file scope get their values.
     Fill,
+    /// `text`: a `printf` of a text in quotes, or of one of several, becomes one for each text.
+    Text,
     /// `storage`: a word of storage, or a prototype of the library, that is left out.
     Storage,
     /// `storage`: an `__attribute__` that is left out.

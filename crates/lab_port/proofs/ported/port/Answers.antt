@@ -9,15 +9,23 @@ returns-clause-ports c = record {
   names = c.in_ok-names.ensures;
   lists = step_on stages.Lists c.in_ok-names.names.text.items c.deref.result.now c.in_ok-lists.lists
       c.deref.ensures.value c.in_ok-lists.ensures;
-  rules = step_on stages.Rules c.in_ok-lists.lists.text.items c.deref-2.result.now c.in_ok-rules.rules
-      c.deref-2.ensures.value c.in_ok-rules.ensures;
-  refusals = c.in_ok-refusals.ensures ∙ ap refusals_of c.deref-3.ensures.value;
+  texts = step_on stages.Texts c.in_ok-lists.lists.text.items c.deref-2.result.now c.in_ok-texts.texts
+      c.deref-2.ensures.value c.in_ok-texts.ensures;
+  again = step_on stages.Texts c.in_ok-texts.texts.text.items c.deref-3.result.now c.in_ok-again.again
+      c.deref-3.ensures.value c.in_ok-again.ensures;
+  rules = step_on stages.Rules c.in_ok-again.again.text.items c.deref-4.result.now c.in_ok-rules.rules
+      c.deref-4.ensures.value c.in_ok-rules.ensures;
+  refusals = c.in_ok-refusals.ensures ∙ ap refusals_of c.deref-5.ensures.value;
 }
 
 pub returns-clause-lines : goal.returns-clause-lines
 returns-clause-lines c =
     let lists = step_on stages.Lists c.in_ok-names.names.text.items c.deref.result.now c.in_ok-lists.lists
     c.deref.ensures.value c.in_ok-lists.ensures in
-    let rules = step_on stages.Rules c.in_ok-lists.lists.text.items c.deref-2.result.now c.in_ok-rules.rules
-    c.deref-2.ensures.value c.in_ok-rules.ensures in
-    rules.lines ∙ lists.lines ∙ c.in_ok-names.ensures.lines
+    let texts = step_on stages.Texts c.in_ok-lists.lists.text.items c.deref-2.result.now c.in_ok-texts.texts
+    c.deref-2.ensures.value c.in_ok-texts.ensures in
+    let again = step_on stages.Texts c.in_ok-texts.texts.text.items c.deref-3.result.now c.in_ok-again.again
+    c.deref-3.ensures.value c.in_ok-again.ensures in
+    let rules = step_on stages.Rules c.in_ok-again.again.text.items c.deref-4.result.now c.in_ok-rules.rules
+    c.deref-4.ensures.value c.in_ok-rules.ensures in
+    rules.lines ∙ again.lines ∙ texts.lines ∙ lists.lines ∙ c.in_ok-names.ensures.lines

@@ -1,0 +1,4 @@
+pub mod Formats
+pub mod Statements
+pub mod Printed
+pub mod Places
