@@ -732,6 +732,7 @@ def ruled(src):
 
 
 WARNINGS = {
+    'FlatArray': 'wrong value',
     'EnumerationType': 'wrong value',
     'EnumerationTypedef': 'wrong value',
     'List': 'differs',
@@ -778,6 +779,9 @@ NAMES = {
     'List': 'list',
     'FileList': 'list',
     'Fill': 'list',
+    'Length': 'length',
+    'FlatArray': 'flat',
+    'FlatIndex': 'flat',
     'Text': 'text',
     'Include': 'include',
     'Storage': 'storage',
@@ -811,6 +815,7 @@ NAMES = {
 }
 FAULT_WORDS = 'a result that does not fit is the fault F1'
 WORDS_OF = {
+    'FlatArray': 'an index past its row stays in the array, and is no fault F3',
     'EnumerationType': 'a negative value differs',
     'EnumerationTypedef': 'a negative value differs',
     'List': 'the stores are steps',
@@ -900,15 +905,17 @@ def listing(source, changes, lacks):
 
 def main():
     """Ports the source on the standard input."""
+    from port_arrays import array_edits
     from port_prints import print_edits
     from port_stages import list_edits, name_edits
     source = sys.stdin.buffer.read()
     named, names = staged(source, name_edits)
-    listed, lists = staged(named, list_edits)
+    sized, arrays = staged(named, array_edits)
+    listed, lists = staged(sized, list_edits)
     printed, texts = staged(listed, print_edits)
     again, more = staged(printed, print_edits)
     text, changes, lacks = ruled(again)
-    told = listing(source, names, []) + listing(named, lists, [])
+    told = listing(source, names, []) + listing(named, arrays, []) + listing(sized, lists, [])
     told += listing(listed, texts, []) + listing(printed, more, []) + listing(again, changes, lacks)
     sys.stdout.buffer.write(text + b'====\n' + told)
 

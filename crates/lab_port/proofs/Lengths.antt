@@ -13,6 +13,8 @@ use Rattle.lab_port_names.specs.declared.uses.Spot.{Spot as NameSpot}
 use Rattle.lab_port_names.specs.Uses.{names_here, first_spot as first_name, mark_here as name_here, spot_behind as name_behind, marks_from as named_from}
 use Rattle.lab_port_lists.specs.declared.place.Spot.{Spot as ListSpot}
 use Rattle.lab_port_lists.specs.Places.{names_with, first_spot as first_list, mark_here as list_here, spot_behind as list_behind, marks_from as listed_from}
+use Rattle.lab_port_arrays.specs.declared.place.Spot.{Spot as ArraySpot}
+use Rattle.lab_port_arrays.specs.Places.{first_spot as first_array, mark_here as array_here, spot_behind as array_behind, marks_from as arrays_from}
 use Rattle.lab_port_prints.specs.declared.place.Spot.{Spot as PrintSpot}
 use Rattle.lab_port_prints.specs.Places.{first_spot as first_print, mark_here as print_here, spot_behind as print_behind, marks_from as printed_from}
 use Rattle.lab_port.specs.declared.stage.Stage.{Stage}
@@ -39,6 +41,12 @@ lists_length names spot (piece ∷ rest) =
     (list_behind spot (list_here names spot piece rest) piece) rest
     )
 
+arrays_length : (all : List Piece) (spot : ArraySpot) (pieces : List Piece)
+    → length (arrays_from all spot pieces) ≡ length pieces
+arrays_length all spot [] = refl
+arrays_length all spot (piece ∷ rest) =
+    ap suc (arrays_length all (array_behind spot (array_here spot piece rest all) piece) rest)
+
 prints_length : (spot : PrintSpot) (pieces : List Piece) → length (printed_from spot pieces) ≡ length pieces
 prints_length spot [] = refl
 prints_length spot (piece ∷ rest) =
@@ -46,6 +54,7 @@ prints_length spot (piece ∷ rest) =
 
 pub stage_fit : (stage : Stage) (pieces : List Piece) → length (stage_marks stage pieces) ≡ length pieces
 stage_fit stages.Names pieces = names_length [] (first_name pieces) pieces
+stage_fit stages.Arrays pieces = arrays_length pieces (first_array pieces) pieces
 stage_fit stages.Lists pieces = lists_length [] (first_list pieces) pieces
 stage_fit stages.Texts pieces = prints_length first_print pieces
 stage_fit stages.Rules pieces =

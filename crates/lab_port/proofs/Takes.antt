@@ -15,6 +15,8 @@ use Rattle.lab_port_names.specs.declared.uses.Spot.{Spot as NameSpot}
 use Rattle.lab_port_names.specs.Uses.{names_here, found_at, first_spot as first_name, mark_here as name_here, mark_by as name_by, spot_behind as name_behind, marks_from as named_from}
 use Rattle.lab_port_lists.specs.declared.place.Spot.{Spot as ListSpot}
 use Rattle.lab_port_lists.specs.Places.{names_with, given_size, first_spot as first_list, mark_here as list_here, mark_by as list_by, spot_behind as list_behind, marks_from as listed_from}
+use Rattle.lab_port_arrays.specs.declared.place.Spot.{Spot as ArraySpot}
+use Rattle.lab_port_arrays.specs.Places.{first_spot as first_array, mark_here as array_here, mark_at as array_at, spot_behind as array_behind, marks_from as arrays_from}
 use Rattle.lab_port_prints.specs.declared.place.Spot.{Spot as PrintSpot}
 use Rattle.lab_port_prints.specs.Places.{first_spot as first_print, mark_here as print_here, mark_at as print_at, spot_behind as print_behind, marks_from as printed_from}
 use Rattle.lab_port.specs.declared.stage.Stage.{Stage}
@@ -86,6 +88,24 @@ lists_take names spot (piece ∷ rest) (suc taken) same =
           (ap (λ k. taken_after k mark) same ∙ ap (λ t. if t then taken_by mark else suc taken - 1) later ∙ left),
     )
 
+arrays_take : (all : List Piece) (spot : ArraySpot) (pieces : List Piece) (taken : ℕ)
+    → spot.taken ≡ taken
+    → Fit taken (arrays_from all spot pieces)
+arrays_take all spot [] zero same = tt
+arrays_take all spot [] (suc taken) same = tt
+arrays_take all spot (piece ∷ rest) zero same =
+    let mark = array_here spot piece rest all in
+    arrays_take all (array_behind spot mark piece) rest (taken_by mark) (ap (λ k. taken_after k mark) same)
+arrays_take all spot (piece ∷ rest) (suc taken) same =
+    let mark = array_here spot piece rest all in
+    let later = not_first taken in
+    let left : suc taken - 1 ≡ taken = omega arith in
+    let other = array_at spot piece rest all in (
+      ap (λ k. if k == 0 then other else marks.Taken) same ∙ ap (λ t. if t then other else marks.Taken) later,
+      arrays_take all (array_behind spot mark piece) rest taken
+          (ap (λ k. taken_after k mark) same ∙ ap (λ t. if t then taken_by mark else suc taken - 1) later ∙ left),
+    )
+
 prints_take : (spot : PrintSpot) (pieces : List Piece) (taken : ℕ)
     → spot.taken ≡ taken
     → Fit taken (printed_from spot pieces)
@@ -106,6 +126,7 @@ prints_take spot (piece ∷ rest) (suc taken) same =
 
 pub stage_takes : (stage : Stage) (pieces : List Piece) → Fit 0 (stage_marks stage pieces)
 stage_takes stages.Names pieces = names_take [] (first_name pieces) pieces 0 refl
+stage_takes stages.Arrays pieces = arrays_take pieces (first_array pieces) pieces 0 refl
 stage_takes stages.Lists pieces = lists_take [] (first_list pieces) pieces 0 refl
 stage_takes stages.Texts pieces = prints_take first_print pieces 0 refl
 stage_takes stages.Rules pieces = marks_take (facts_of (classes_of pieces)) first_place (classes_of pieces) 0 refl

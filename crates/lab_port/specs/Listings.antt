@@ -72,7 +72,8 @@ refusals_part file source refusals =
 abbrev pub change_list : List ℕ → List ℕ → Ported → List ℕ
 change_list file source ported =
     changes_part file source ported.names.changes.items
-    ++ changes_part file ported.names.text.items ported.lists.changes.items
+    ++ changes_part file ported.names.text.items ported.arrays.changes.items
+    ++ changes_part file ported.arrays.text.items ported.lists.changes.items
     ++ changes_part file ported.lists.text.items ported.texts.changes.items
     ++ changes_part file ported.texts.text.items ported.again.changes.items
     ++ changes_part file ported.again.text.items ported.rules.changes.items

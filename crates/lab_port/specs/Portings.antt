@@ -8,6 +8,7 @@ use Rattle.lab_port_rules.specs.declared.mark.Mark.TheVariants as marks
 use Rattle.lab_port_rules.specs.declared.rule.Meaning.{Meaning}
 use Rattle.lab_port_rules.specs.Marks.{marks_of}
 use Rattle.lab_port_names.specs.Uses.{name_marks, names_of}
+use Rattle.lab_port_arrays.specs.Places.{array_marks}
 use Rattle.lab_port_lists.specs.Places.{list_marks, lists_of}
 use Rattle.lab_port_prints.specs.Places.{print_marks}
 use Rattle.lab_port.specs.declared.ported.Change.{Change}
@@ -47,6 +48,7 @@ refusals_from (piece ∷ rest) (mark ∷ more) = refusals_at mark piece ++ refus
 -- the marks of the pieces of a text in a stage
 abbrev pub stage_marks : Stage → List Piece → List Mark
 stage_marks stages.Names pieces = name_marks pieces
+stage_marks stages.Arrays pieces = array_marks pieces
 stage_marks stages.Lists pieces = list_marks pieces
 stage_marks stages.Texts pieces = print_marks pieces
 stage_marks stages.Rules pieces = marks_of (classes_of pieces)
@@ -54,6 +56,7 @@ stage_marks stages.Rules pieces = marks_of (classes_of pieces)
 -- the names that stand for texts in a stage
 abbrev pub stage_names : Stage → List Piece → List Meaning
 stage_names stages.Names pieces = names_of pieces
+stage_names stages.Arrays pieces = []
 stage_names stages.Lists pieces = lists_of pieces
 stage_names stages.Texts pieces = []
 stage_names stages.Rules pieces = []
@@ -70,13 +73,13 @@ changes_in stage text = stage_changes stage (pieces_of text)
 abbrev pub after : Stage → List ℕ → List ℕ
 after stage text = with_changes text 0 (changes_in stage text)
 
--- a source with its names written out, behind that with stores for its lists, and behind that with a statement for each
--- of the texts that one chooses from
+-- a source with its names written out, behind that with other lengths and indices of its arrays, behind that with stores
+-- for its lists, and behind that with a statement for each of the texts that one chooses from
 abbrev pub named_text : List ℕ → List ℕ
 named_text source = after stages.Names source
 
 abbrev pub listed_text : List ℕ → List ℕ
-listed_text source = after stages.Lists (named_text source)
+listed_text source = after stages.Lists (after stages.Arrays (named_text source))
 
 abbrev pub printed_text : List ℕ → List ℕ
 printed_text source = after stages.Texts (after stages.Texts (listed_text source))
@@ -101,7 +104,8 @@ pub record IsStep (stage : Stage) (text : List ℕ) (step : Step) : Type 0 where
 -- the last one.
 pub record Ports (source : List ℕ) (ported : Ported) : Type 0 where
   pub names : IsStep stages.Names source ported.names
-  pub lists : IsStep stages.Lists ported.names.text.items ported.lists
+  pub arrays : IsStep stages.Arrays ported.names.text.items ported.arrays
+  pub lists : IsStep stages.Lists ported.arrays.text.items ported.lists
   pub texts : IsStep stages.Texts ported.lists.text.items ported.texts
   pub again : IsStep stages.Texts ported.texts.text.items ported.again
   pub rules : IsStep stages.Rules ported.again.text.items ported.rules

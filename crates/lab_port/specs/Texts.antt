@@ -5,6 +5,7 @@ use Rattle.lab_port_tokens.specs.declared.piece.PieceKind.{PieceKind}
 use Rattle.lab_port_tokens.specs.declared.piece.PieceKind.TheVariants as kinds
 use Rattle.lab_port_words.specs.Texts.{without_suffix, plain_format, line_text}
 use Rattle.lab_port_names.specs.Names.{meaning_of}
+use Rattle.lab_port_arrays.specs.Written.{sized_text, index_text}
 use Rattle.lab_port_lists.specs.Arrays.{array_text, declarator}
 use Rattle.lab_port_prints.specs.Printed.{statement_text}
 use Rattle.lab_port_rules.specs.declared.rule.Meaning.{Meaning}
@@ -65,6 +66,9 @@ new_text names rules.Use text taken = meaning_of text names
 new_text names rules.List text taken = array_text text taken
 new_text names rules.FileList text taken = declarator text taken
 new_text names rules.Fill text taken = filled_text names
+new_text names (rules.Length number) text taken = sized_text text number
+new_text names (rules.FlatArray number) text taken = sized_text text number
+new_text names (rules.FlatIndex columns) text taken = index_text text columns taken
 new_text names rules.Text text taken = statement_text taken
 new_text names rule text taken = plain_text rule text taken
 

@@ -19,6 +19,7 @@ type_warning _ = None
 abbrev pub warning_of : Rule → Option Kind
 warning_of rules.EnumerationType = Some kinds.WrongValue
 warning_of rules.EnumerationTypedef = Some kinds.WrongValue
+warning_of (rules.FlatArray number) = Some kinds.WrongValue
 warning_of rules.List = Some kinds.Differs
 warning_of rules.Fill = Some kinds.Differs
 warning_of rules.Attribute = Some kinds.Differs

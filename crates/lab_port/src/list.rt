@@ -26,7 +26,8 @@ pub fn change_list(
 {
     let mut out = Vec::new(alloc);
     push_changes(&mut out, file, source, &ported.names.changes)?;
-    push_changes(&mut out, file, &ported.names.text, &ported.lists.changes)?;
+    push_changes(&mut out, file, &ported.names.text, &ported.arrays.changes)?;
+    push_changes(&mut out, file, &ported.arrays.text, &ported.lists.changes)?;
     push_changes(&mut out, file, &ported.lists.text, &ported.texts.changes)?;
     push_changes(&mut out, file, &ported.texts.text, &ported.again.changes)?;
     push_changes(&mut out, file, &ported.again.text, &ported.rules.changes)?;

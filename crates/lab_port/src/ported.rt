@@ -51,6 +51,8 @@ pub struct Step {
 pub struct Ported {
     /// The source, with its names written out.
     pub names: Step,
+    /// That text, with other lengths and indices of its arrays.
+    pub arrays: Step,
     /// That text, with stores for its lists.
     pub lists: Step,
     /// That text, with a statement for each text that one chooses from.
@@ -70,13 +72,15 @@ pub fn port(alloc: Global, source: &[u8]) -> AllocResult<Ported>
     ensures lines { IfOk result (λ ported. line_feeds ported.rules.text.items ≡ line_feeds source.now) }
 {
     let names = step_of(alloc, Stage::Names, source)?;
-    let lists = step_of(alloc, Stage::Lists, &names.text)?;
+    let arrays = step_of(alloc, Stage::Arrays, &names.text)?;
+    let lists = step_of(alloc, Stage::Lists, &arrays.text)?;
     let texts = step_of(alloc, Stage::Texts, &lists.text)?;
     let again = step_of(alloc, Stage::Texts, &texts.text)?;
     let rules = step_of(alloc, Stage::Rules, &again.text)?;
     let refusals = refusals_of(alloc, &again.text)?;
     Ok(Ported {
         names,
+        arrays,
         lists,
         texts,
         again,

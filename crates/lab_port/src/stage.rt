@@ -5,6 +5,7 @@ ghost use Rattle.lab_port_words.specs.Tables.{classes_of};
 ghost use Rattle.lab_port_rules.specs.Marks.{marks_of};
 ghost use Rattle.lab_port.specs.Portings.{stage_marks, stage_names};
 
+use lab_port_arrays::array_marks;
 use lab_port_lists::{Listed, list_marks};
 use lab_port_names::{Named, name_marks};
 use lab_port_prints::print_marks;
@@ -19,6 +20,8 @@ use std::alloc::Global;
 pub enum Stage {
     /// Macros, constants of enumerations and names of types are written out.
     Names,
+    /// Lengths of arrays become numbers, and two dimensions one.
+    Arrays,
     /// Lists of values become stores.
     Lists,
     /// Statements that print a text which they choose become one for each text.
@@ -55,6 +58,7 @@ fn found_in(alloc: Global, stage: Stage, pieces: &[Piece]) -> AllocResult<Marked
             let Named { names, marks } = name_marks(alloc, pieces)?;
             Ok(Marked { names, marks })
         }
+        Stage::Arrays => unnamed(alloc, array_marks(alloc, pieces)?),
         Stage::Lists => {
             let Listed { names, marks } = list_marks(alloc, pieces)?;
             Ok(Marked { names, marks })

@@ -11,11 +11,12 @@ pub fn change_count(ported: &Ported) -> u128
     ensures { result ≡ change_count ported.now }
 {
     let names = ported.names.changes.len() as u128;
+    let arrays = ported.arrays.changes.len() as u128;
     let lists = ported.lists.changes.len() as u128;
     let texts = ported.texts.changes.len() as u128;
     let again = ported.again.changes.len() as u128;
     let rules = ported.rules.changes.len() as u128;
-    names + lists + texts + again + rules
+    names + arrays + lists + texts + again + rules
 }
 
 /// How many changes of all stages have a warning.
@@ -23,11 +24,12 @@ pub fn warning_count(ported: &Ported) -> u128
     ensures { result ≡ warning_count ported.now }
 {
     let names = warnings_in(&ported.names.changes) as u128;
+    let arrays = warnings_in(&ported.arrays.changes) as u128;
     let lists = warnings_in(&ported.lists.changes) as u128;
     let texts = warnings_in(&ported.texts.changes) as u128;
     let again = warnings_in(&ported.again.changes) as u128;
     let rules = warnings_in(&ported.rules.changes) as u128;
-    names + lists + texts + again + rules
+    names + arrays + lists + texts + again + rules
 }
 
 // How many changes have a warning.

@@ -3,6 +3,7 @@
 ghost use Rattle.std.specs.Prelude.{◌≡◌, ◌++◌, ◌∷◌, [], decimal, map, flat_map, IfOk, OnOk, take};
 ghost use Rattle.lab_port.specs.Texts.{is_text, text_among, fixed_text, printed_text, plain_text, filled_text, new_text, flat_byte, flat_text};
 
+use lab_port_arrays::{index_text, sized_text};
 use lab_port_lists::{array_text, declarator};
 use lab_port_names::meaning_of;
 use lab_port_prints::statement_text;
@@ -66,6 +67,8 @@ fn new_text(
         Rule::FileList => declarator(alloc, text, taken),
         Rule::Fill => filled_text(alloc, names),
         Rule::Text => statement_text(alloc, taken),
+        Rule::Length(number) | Rule::FlatArray(number) => sized_text(alloc, text, number),
+        Rule::FlatIndex(columns) => index_text(alloc, text, columns, taken),
         _ => plain_text(alloc, rule, text, taken),
     }
 }

@@ -26,7 +26,8 @@ lacking_place text refusal =
 abbrev pub places_of : List ℕ → Ported → List Found
 places_of source ported =
     map (changed_place source) ported.names.changes.items
-    ++ map (changed_place ported.names.text.items) ported.lists.changes.items
+    ++ map (changed_place ported.names.text.items) ported.arrays.changes.items
+    ++ map (changed_place ported.arrays.text.items) ported.lists.changes.items
     ++ map (changed_place ported.lists.text.items) ported.texts.changes.items
     ++ map (changed_place ported.texts.text.items) ported.again.changes.items
     ++ map (changed_place ported.again.text.items) ported.rules.changes.items

@@ -27,6 +27,12 @@ pub(crate) fn places_of(alloc: Global, source: &[u8], ported: &Ported) -> AllocR
         alloc,
         &mut places,
         &ported.names.text,
+        &ported.arrays.changes,
+    )?;
+    push_changes(
+        alloc,
+        &mut places,
+        &ported.arrays.text,
         &ported.lists.changes,
     )?;
     push_changes(

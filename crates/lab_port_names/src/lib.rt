@@ -18,5 +18,6 @@ mod sights;
 mod type_name;
 mod uses;
 
+pub use macros::definition_in;
 pub use names::meaning_of;
-pub use uses::{Named, name_marks};
+pub use uses::{Named, has_condition, name_marks};

@@ -73,8 +73,8 @@ fn macro_again(alloc: Global, names: &[Meaning], size: usize, found: &Meaning) -
     })
 }
 
-// The name and the body of the macro that the line defines whose `#` stands before these pieces.
-fn definition_in(rest: &[Piece]) -> &[Piece]
+/// The name and the body of the macro that the line defines whose `#` stands before these pieces.
+pub fn definition_in(rest: &[Piece]) -> &[Piece]
     ensures { result.now ≡ definition_in rest.now }
 {
     behind_define(behind_spaces(&rest[..line_pieces(rest)]))

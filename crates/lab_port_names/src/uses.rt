@@ -51,8 +51,8 @@ pub fn name_marks(alloc: Global, pieces: &[Piece]) -> AllocResult<Named>
     Ok(Named { names, marks })
 }
 
-// Whether a `#` line stands there that is no include, define or pragma.
-fn has_condition(pieces: &[Piece]) -> bool
+/// Whether a `#` line stands there that is no include, define or pragma.
+pub fn has_condition(pieces: &[Piece]) -> bool
     ensures { result ≡ has_condition at_first pieces.now }
 {
     let mut context = at_first();

@@ -35,6 +35,12 @@ pub enum Rule {
     FileList,
     /// `list`: the `{` of `main`, behind which the arrays at file scope get their values.
     Fill,
+    /// `length`: the length of an array becomes this number.
+    Length(usize),
+    /// `flat`: an array of two dimensions becomes one of one dimension, with this length.
+    FlatArray(usize),
+    /// `flat`: two indices become one, where a row has so many elements.
+    FlatIndex(usize),
     /// `text`: a `printf` of a text in quotes, or of one of several, becomes one for each text.
     Text,
     /// `storage`: a word of storage, or a prototype of the library, that is left out.

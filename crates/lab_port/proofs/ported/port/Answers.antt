@@ -7,25 +7,29 @@ use Rattle.lab_port.proofs.ported.port.Goals as goal
 pub returns-clause-ports : goal.returns-clause-ports
 returns-clause-ports c = record {
   names = c.in_ok-names.ensures;
-  lists = step_on stages.Lists c.in_ok-names.names.text.items c.deref.result.now c.in_ok-lists.lists
-      c.deref.ensures.value c.in_ok-lists.ensures;
-  texts = step_on stages.Texts c.in_ok-lists.lists.text.items c.deref-2.result.now c.in_ok-texts.texts
-      c.deref-2.ensures.value c.in_ok-texts.ensures;
-  again = step_on stages.Texts c.in_ok-texts.texts.text.items c.deref-3.result.now c.in_ok-again.again
-      c.deref-3.ensures.value c.in_ok-again.ensures;
-  rules = step_on stages.Rules c.in_ok-again.again.text.items c.deref-4.result.now c.in_ok-rules.rules
-      c.deref-4.ensures.value c.in_ok-rules.ensures;
-  refusals = c.in_ok-refusals.ensures ∙ ap refusals_of c.deref-5.ensures.value;
+  arrays = step_on stages.Arrays c.in_ok-names.names.text.items c.deref.result.now c.in_ok-arrays.arrays
+      c.deref.ensures.value c.in_ok-arrays.ensures;
+  lists = step_on stages.Lists c.in_ok-arrays.arrays.text.items c.deref-2.result.now c.in_ok-lists.lists
+      c.deref-2.ensures.value c.in_ok-lists.ensures;
+  texts = step_on stages.Texts c.in_ok-lists.lists.text.items c.deref-3.result.now c.in_ok-texts.texts
+      c.deref-3.ensures.value c.in_ok-texts.ensures;
+  again = step_on stages.Texts c.in_ok-texts.texts.text.items c.deref-4.result.now c.in_ok-again.again
+      c.deref-4.ensures.value c.in_ok-again.ensures;
+  rules = step_on stages.Rules c.in_ok-again.again.text.items c.deref-5.result.now c.in_ok-rules.rules
+      c.deref-5.ensures.value c.in_ok-rules.ensures;
+  refusals = c.in_ok-refusals.ensures ∙ ap refusals_of c.deref-6.ensures.value;
 }
 
 pub returns-clause-lines : goal.returns-clause-lines
 returns-clause-lines c =
-    let lists = step_on stages.Lists c.in_ok-names.names.text.items c.deref.result.now c.in_ok-lists.lists
-    c.deref.ensures.value c.in_ok-lists.ensures in
-    let texts = step_on stages.Texts c.in_ok-lists.lists.text.items c.deref-2.result.now c.in_ok-texts.texts
-    c.deref-2.ensures.value c.in_ok-texts.ensures in
-    let again = step_on stages.Texts c.in_ok-texts.texts.text.items c.deref-3.result.now c.in_ok-again.again
-    c.deref-3.ensures.value c.in_ok-again.ensures in
-    let rules = step_on stages.Rules c.in_ok-again.again.text.items c.deref-4.result.now c.in_ok-rules.rules
-    c.deref-4.ensures.value c.in_ok-rules.ensures in
-    rules.lines ∙ again.lines ∙ texts.lines ∙ lists.lines ∙ c.in_ok-names.ensures.lines
+    let arrays = step_on stages.Arrays c.in_ok-names.names.text.items c.deref.result.now c.in_ok-arrays.arrays
+    c.deref.ensures.value c.in_ok-arrays.ensures in
+    let lists = step_on stages.Lists c.in_ok-arrays.arrays.text.items c.deref-2.result.now c.in_ok-lists.lists
+    c.deref-2.ensures.value c.in_ok-lists.ensures in
+    let texts = step_on stages.Texts c.in_ok-lists.lists.text.items c.deref-3.result.now c.in_ok-texts.texts
+    c.deref-3.ensures.value c.in_ok-texts.ensures in
+    let again = step_on stages.Texts c.in_ok-texts.texts.text.items c.deref-4.result.now c.in_ok-again.again
+    c.deref-4.ensures.value c.in_ok-again.ensures in
+    let rules = step_on stages.Rules c.in_ok-again.again.text.items c.deref-5.result.now c.in_ok-rules.rules
+    c.deref-5.ensures.value c.in_ok-rules.ensures in
+    rules.lines ∙ again.lines ∙ texts.lines ∙ lists.lines ∙ arrays.lines ∙ c.in_ok-names.ensures.lines
