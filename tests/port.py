@@ -4,7 +4,7 @@
 
 PORT is the words of a program that reads a source on its standard input, and writes the ported text, a line `====` and
 the list of changes: 'crates/gate/out/gate port'. Each file of tests/port has cases: a line `== TITLE`, and a C source.
-A title ends with `(refused)` where the subset has no form for what is left. The text is built by gcc as the source is. Where output or status differ, the list has to have a warning of the kind
+A title ends with `(refused)` exactly where the text is not accepted, as the model beside this file says. The text is built by gcc as the source is. Where output or status differ, the list has to have a warning of the kind
 `wrong value` or `fault` or `differs`; else the case fails. Each case is also ported again: the text has to stay as it is.
 """
 
@@ -15,6 +15,8 @@ import subprocess
 import sys
 import tempfile
 import time
+
+from ported import refusal
 
 FOLDER = os.path.join(os.path.dirname(os.path.abspath(__file__)), "port")
 FLAGS = ["-std=gnu17", "-w", "-O0", "-fopenmp"]
@@ -53,6 +55,9 @@ def fault_of(program, folder, title, source):
         return "the text has other lines"
     if ported(program, text)[1] != text:
         return "the port of the text is another text"
+    refused = refusal(text.encode())
+    if bool(refused) != title.endswith("(refused)"):
+        return f"the text is refused: {refused}" if refused else "the text is accepted"
     wanted = run(folder, source)
     if wanted is None:
         return "gcc refuses the source"
@@ -67,7 +72,7 @@ def fault_of(program, folder, title, source):
 
 def main():
     program, *words = shlex.split(sys.argv[1])
-    program, names = [os.path.abspath(program), *words], sys.argv[2:]
+    program, names = [os.path.abspath(program) if os.path.exists(program) else program, *words], sys.argv[2:]
     begun, count, failed = time.time(), 0, 0
     with tempfile.TemporaryDirectory() as folder:
         for title, source in cases(names):
