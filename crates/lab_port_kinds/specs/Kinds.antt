@@ -1,7 +1,9 @@
 -- What of a source is not accepted, once a kind.
-use Rattle.std.specs.Prelude.{ℕ, Bool, List, [], ◌∷◌, ◌++◌, ◌+◌, ◌-◌, ◌==◌, ◌&&◌, if◌then◌else◌, nat_lt, codes, decimal, map, count_by, length, take}
+use Rattle.std.specs.Prelude.{ℕ, Bool, true, false, List, [], ◌∷◌, ◌++◌, ◌+◌, ◌-◌, ◌==◌, ◌&&◌, if◌then◌else◌, nat_lt, codes, decimal, map, flat_map, count_by, length, take}
 use Rattle.std.specs.Str.{bytes_eq}
 use Rattle.std.specs.List.{list_any}
+use Rattle.lab_port_rules.specs.declared.rule.Rule.{Rule}
+use Rattle.lab_port_rules.specs.declared.rule.Rule.TheVariants as rules
 use Rattle.lab_port.specs.declared.ported.Change.{Change}
 use Rattle.lab_port.specs.declared.ported.Refusal.{Refusal}
 use Rattle.lab_port.specs.declared.ported.Ported.{Ported}
@@ -17,6 +19,17 @@ abbrev pub changed_place : List ℕ → Change → Found
 changed_place text change =
     record { words = changed_words change; line = line_of text (place_in text change.at) }
 
+-- the change that stores the values of lists is of a text that the port wrote: the lists have places of their own
+abbrev pub is_fill : Rule → Bool
+is_fill rules.Fill = true
+is_fill _ = false
+
+abbrev pub places_at : List ℕ → Change → List Found
+places_at text change = if is_fill change.rule then [] else changed_place text change ∷ []
+
+abbrev pub changed_places : List ℕ → List Change → List Found
+changed_places text changes = flat_map (places_at text) changes
+
 -- a token without a form
 abbrev pub lacking_place : List ℕ → Refusal → Found
 lacking_place text refusal =
@@ -25,12 +38,12 @@ lacking_place text refusal =
 -- the places of a source where a rule applies, stage by stage, and then those without a form
 abbrev pub places_of : List ℕ → Ported → List Found
 places_of source ported =
-    map (changed_place source) ported.names.changes.items
-    ++ map (changed_place ported.names.text.items) ported.arrays.changes.items
-    ++ map (changed_place ported.arrays.text.items) ported.lists.changes.items
-    ++ map (changed_place ported.lists.text.items) ported.texts.changes.items
-    ++ map (changed_place ported.texts.text.items) ported.again.changes.items
-    ++ map (changed_place ported.again.text.items) ported.rules.changes.items
+    changed_places source ported.names.changes.items
+    ++ changed_places ported.names.text.items ported.arrays.changes.items
+    ++ changed_places ported.arrays.text.items ported.lists.changes.items
+    ++ changed_places ported.lists.text.items ported.texts.changes.items
+    ++ changed_places ported.texts.text.items ported.again.changes.items
+    ++ changed_places ported.again.text.items ported.rules.changes.items
     ++ map (lacking_place ported.again.text.items) ported.refusals.items
 
 abbrev pub is_like : Found → Found → Bool

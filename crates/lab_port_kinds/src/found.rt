@@ -1,9 +1,9 @@
 //! The places of a source that are not accepted.
 
 ghost use Rattle.std.specs.Prelude.{◌≡◌, ◌++◌, map, IfOk, OnOk};
-ghost use Rattle.lab_port_kinds.specs.Kinds.{changed_words, changed_place, lacking_place, places_of};
+ghost use Rattle.lab_port_kinds.specs.Kinds.{changed_words, changed_place, is_fill, places_at, changed_places, lacking_place, places_of};
 
-use lab_port::{Change, Ported, Refusal, lack_words, line_of, name_of};
+use lab_port::{Change, Ported, Refusal, Rule, lack_words, line_of, name_of};
 use om_seq::{AllocResult, Seq};
 use std::alloc::Global;
 
@@ -65,12 +65,39 @@ fn push_changes(
     changes: &[Change],
 ) -> AllocResult<()>
     ensures { OnOk result
-        (places.new.items ≡ places.old.items ++ map (changed_place text.now) changes.now) }
+        (places.new.items ≡ places.old.items ++ changed_places text.now changes.now) }
 {
     for change in changes {
-        places.push(changed_place(alloc, text, change)?)?;
+        push_places(alloc, places, text, change)?;
     }
     Ok(())
+}
+
+// Appends the place of a change of a text, where it has one.
+fn push_places(
+    alloc: Global,
+    places: &mut Vec<Found>,
+    text: &[u8],
+    change: &Change,
+) -> AllocResult<()>
+    ensures { OnOk result
+        (places.new.items ≡ places.old.items ++ places_at text.now change.now) }
+{
+    if is_fill(change.rule) {
+        return Ok(());
+    }
+    places.push(changed_place(alloc, text, change)?)?;
+    Ok(())
+}
+
+// Whether a rule stores the values of lists. It changes a text that the port wrote: the lists have places of their own.
+fn is_fill(rule: Rule) -> bool
+    ensures { result ≡ is_fill rule }
+{
+    match rule {
+        Rule::Fill => true,
+        _ => false,
+    }
 }
 
 // Appends the places of some tokens of a text that have no form.
