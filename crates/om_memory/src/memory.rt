@@ -317,8 +317,10 @@ impl Memory {
         self.values.put_present(object, value)
     }
 
-    /// Adds to the count at an object that is kept; another value stays. It takes no memory.
+    /// Adds to the count at an object that is no control and is kept; another value stays. It takes no
+    /// memory.
     pub fn add(&mut self, object: &Obj, number: i128)
+        requires no_control { is_trailed object.now ≡ false }
         requires kept { is_kept self.old object.now ≡ true }
         requires fits { SumFits (state_of self.old object.now) number }
         ensures state { state_of self.new
@@ -327,14 +329,13 @@ impl Memory {
         ensures pasts { pasts_of self.new ≡ pasts_of self.old }
         ensures kept { (q : Obj) → is_kept self.new q ≡ is_kept self.old q }
     {
-        match worker_of(object) {
-            Some(_) => {}
-            None => self.values.add(object, number),
-        }
+        self.values.add(object, number);
     }
 
-    /// Takes from the count at an object that is kept; another value stays. It takes no memory.
+    /// Takes from the count at an object that is no control and is kept; another value stays. It takes no
+    /// memory.
     pub fn subtract(&mut self, object: &Obj, number: i128)
+        requires no_control { is_trailed object.now ≡ false }
         requires kept { is_kept self.old object.now ≡ true }
         requires fits { SumFits (state_of self.old object.now) (neg_ℤ number) }
         ensures state { state_of self.new
@@ -343,10 +344,7 @@ impl Memory {
         ensures pasts { pasts_of self.new ≡ pasts_of self.old }
         ensures kept { (q : Obj) → is_kept self.new q ≡ is_kept self.old q }
     {
-        match worker_of(object) {
-            Some(_) => {}
-            None => self.values.subtract(object, number),
-        }
+        self.values.subtract(object, number);
     }
 
     /// Appends to the output or to events at an object that is no control and is kept; another value
