@@ -21,16 +21,29 @@ use Rattle.om_code.specs.declared.frame.Fault.{Fault}
 use Rattle.om_code.specs.declared.frame.Fault.TheVariants as fault
 use Rattle.om_code.specs.declared.frame.Operand.{Operand}
 use Rattle.om_code.specs.declared.frame.Operand.TheVariants as operand
-use Rattle.om_code.specs.declared.serial.Touch.{Touch}
-use Rattle.om_code.specs.declared.serial.Touch.TheVariants.{Nothing, Reads, Writes, Clears, Prints}
-use Rattle.om_code.specs.declared.serial.Turn.{Turn}
-use Rattle.om_code.specs.declared.serial.Turn.TheVariants.{Goes, Returns, Finishes, Faults, Lacks}
+use Rattle.om_code.specs.declared.act.Act as acts
+use Rattle.om_code.specs.declared.act.Act.TheVariants.{Turns, Loads, Stores, Updates}
+use Rattle.om_code.specs.declared.act.Act.TheVariants as acted_by
+use Rattle.om_code.specs.declared.act.Turn.{Turn}
+use Rattle.om_code.specs.declared.act.Turn.TheVariants.{Goes, Returns, Finishes, Faults, Lacks}
 use Rattle.om_code.specs.Ways.{pops, pushes, successors}
 use Rattle.om_code.specs.Validity.{IsKnownPlace, IsKnownText}
 use Rattle.om_code.specs.Arithmetic.{operate, operate_on_one, update}
 use Rattle.om_code.specs.Printing.{printed, ints_on}
 
--- what an instruction touches beside its frame, and its turn by what stands in the cell that it reads or writes
+-- what an instruction touches beside its frame's place and operands
+pub data Touch : Type 0 where
+  Nothing : Touch
+  -- the cell of a variable at this index is read; a scalar's index is 0
+  Reads : (place : Place) (index : ℕ) → Touch
+  -- the cell of a variable at this index is written, and what it held counts
+  Writes : (place : Place) (index : ℕ) → Touch
+  -- each cell of the slot of this number becomes unset
+  Clears : (slot : ℕ) → Touch
+  -- the text of this number is appended to the output, with so many values from the top
+  Prints : (text : ℕ) (values : ℕ) → Touch
+
+-- what an instruction touches, and its turn by what stands in the cell that it reads or writes
 pub record Act : Type 0 where
   pub touch : Touch
   pub turn : Cell → Turn
@@ -95,6 +108,15 @@ abbrev pub updated : ℕ → AtomicOperator → Side → ℤ → Cell → Turn
 updated takes operator side other (cell.Int old) = put takes (update operator side old other)
 updated takes operator side other cell.Unset = Faults fault.Unset
 updated takes operator side other cell.Dead = Faults fault.Dead
+
+-- what is touched, and what comes of it, where an instruction does this
+abbrev pub meaning : acts.Act → Act
+meaning (Turns t) = decided t
+meaning (Loads place index takes) = reads place index (loaded takes)
+meaning (Stores place index takes pushed value) = writes place index (stored takes pushed value)
+meaning (Updates place index takes operator side operand) = writes place index (updated takes operator side operand)
+meaning (acted_by.Clears slot) = record { touch = Clears slot; turn = λ _. goes 0 None }
+meaning (acted_by.Prints text values) = record { touch = Prints text values; turn = λ _. goes values None }
 
 -- how many cells a variable has; a scalar has one
 abbrev pub cells_in : Raw → List Slot → Place → ℕ

@@ -13,7 +13,7 @@ use Rattle.om_code.specs.declared.instruction.Place.TheVariants as place
 use Rattle.om_code.specs.declared.instruction.UnaryOperator as unary
 use Rattle.om_code.specs.declared.raw.Raw.{Raw}
 use Rattle.om_code.specs.declared.raw.Slot.{Slot}
-use Rattle.om_code.specs.declared.serial.Touch.TheVariants.{Reads, Writes}
+use Rattle.om_code.specs.Frames.{Reads, Writes}
 use Rattle.om_code.specs.Arithmetic.{operate, operate_on_one}
 use Rattle.om_code.specs.Frames as frames
 use Rattle.om_code.specs.Frames.{FrameTurn, Faulted, act, acted, turned, decided, gives, loaded, stored, kept, reads}

@@ -13,7 +13,7 @@ use Rattle.om_code.specs.declared.frame.Operand.{Operand}
 use Rattle.om_code.specs.declared.frame.Operand.TheVariants as operand
 use Rattle.om_code.specs.declared.raw.Raw.{Raw}
 use Rattle.om_code.specs.declared.raw.Slot.{Slot}
-use Rattle.om_code.specs.declared.serial.Turn.TheVariants.{Returns, Finishes}
+use Rattle.om_code.specs.declared.act.Turn.TheVariants.{Returns, Finishes}
 use Rattle.om_code.specs.Frames as frames
 use Rattle.om_code.specs.Frames.{Frame, acted, on_int, decided, cells_in}
 use Rattle.om_code.specs.Places.{slots_of}

@@ -14,9 +14,9 @@ use Rattle.om_code.specs.declared.instruction.Reduction.{Reduction}
 use Rattle.om_code.specs.declared.raw.Body.{Body}
 use Rattle.om_code.specs.declared.raw.Raw.{Raw}
 use Rattle.om_code.specs.declared.raw.Slot.{Slot}
-use Rattle.om_code.specs.declared.serial.Touch.{Touch}
-use Rattle.om_code.specs.declared.serial.Touch.TheVariants as touch
-use Rattle.om_code.specs.declared.serial.Turn.{Turn}
+use Rattle.om_code.specs.Frames.{Touch}
+use Rattle.om_code.specs.Frames as touch
+use Rattle.om_code.specs.declared.act.Turn.{Turn}
 use Rattle.om_code.specs.Frames.{act}
 use Rattle.om_code.specs.Printing.{ints_on}
 use Rattle.om_events.specs.declared.kind.TaskStatus as statuses

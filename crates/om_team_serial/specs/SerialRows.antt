@@ -16,10 +16,10 @@ use Rattle.om_code.specs.declared.frame.Fault.{Fault}
 use Rattle.om_code.specs.declared.frame.Fault.TheVariants as fault
 use Rattle.om_code.specs.declared.frame.Operand.{Operand}
 use Rattle.om_code.specs.declared.frame.Operand.TheVariants as operand
-use Rattle.om_code.specs.declared.serial.Touch.{Touch}
-use Rattle.om_code.specs.declared.serial.Touch.TheVariants as touch
-use Rattle.om_code.specs.declared.serial.Turn.{Turn}
-use Rattle.om_code.specs.declared.serial.Turn.TheVariants as turn
+use Rattle.om_code.specs.Frames.{Touch}
+use Rattle.om_code.specs.Frames as touch
+use Rattle.om_code.specs.declared.act.Turn.{Turn}
+use Rattle.om_code.specs.declared.act.Turn.TheVariants as turn
 use Rattle.om_code.specs.Frames.{Act, act, cells_in, print_bytes}
 use Rattle.om_code.specs.Places.{slots_of}
 use Rattle.om_code.specs.Arithmetic.{combine}
