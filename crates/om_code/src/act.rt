@@ -65,7 +65,10 @@ pub enum Act {
     /// Each cell of the slot of this number becomes unset.
     Clears(u32),
     /// The text of this number is appended to the output, with so many values from the top, which are taken.
-    Prints { text: u32, values: u16 },
+    Prints {
+        text: u32,
+        values: u16,
+    },
 }
 
 impl Act {

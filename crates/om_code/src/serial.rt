@@ -3,74 +3,68 @@
 ghost use Rattle.std.specs.Prelude.{◌≡◌, Some, None};
 ghost use Rattle.om_code.specs.Printing.{ints_on};
 ghost use Rattle.om_code.specs.Validity.{NamesKnown, IsKnownPlace};
-ghost use Rattle.om_code.specs.Frames.{act, meaning, decided, IsThere, IsRight, int_at, goes, gives, cells_in, index_in, duplicate, pop, unary, binary, jump_if_zero, use_value, store, load_element, store_element, update_scalar, update_element, print, return_value, finish};
+ghost use Rattle.om_code.specs.Frames.{act, meaning, decided, IsThere, IsRight, int_at, goes, gives, cells_in, index_in, duplicate, pop, unary, binary, jump_if_zero, use_value, store, load_element, store_element, update_scalar, update_element, print};
 ghost use Rattle.om_code.specs.declared.frame.Cell.{Cell};
+ghost use Rattle.om_code.specs.declared.instruction.Instr.TheVariants as instructions;
 
 use crate::act::{Act, Turn, goes};
 use crate::arithmetic::{operate, operate_on_one};
 use crate::frame::{Fault, Operand, Operands};
-use crate::instruction::{AtomicOperator, BinaryOperator, Instr, Place, Side, UnaryOperator};
+use crate::instruction::{AtomicOperator, BinaryOperator, Place, Serial, Side, UnaryOperator};
 use crate::print::has_ints;
 use crate::raw::{Raw, Slot};
 
 /// What an instruction does in a frame with these slots and operands.
 ///
 /// A fault or a lack that the instruction and its operands alone decide touches nothing.
-pub fn act_of(raw: &Raw, slots: &[Slot], instr: Instr, operands: &Operands<'_>) -> Act
-    requires { NamesKnown raw.now slots.now instr }
+pub fn act_of(raw: &Raw, slots: &[Slot], instr: Serial, operands: &Operands<'_>) -> Act
+    requires { NamesKnown raw.now slots.now (instructions.Serial instr) }
     ensures same { meaning result ≡ act raw.now slots.now instr operands.now }
     ensures there { IsThere raw.now slots.now operands.now (meaning result).touch }
-    ensures right { (cell : Cell) → IsRight instr ((meaning result).turn cell) }
+    ensures right { (cell : Cell) → IsRight (instructions.Serial instr) ((meaning result).turn cell) }
 {
     row(raw, slots, instr, operands)
 }
 
 // The rows of the serial instructions.
-fn row(raw: &Raw, slots: &[Slot], instr: Instr, operands: &Operands<'_>) -> Act
-    requires { NamesKnown raw.now slots.now instr }
+fn row(raw: &Raw, slots: &[Slot], instr: Serial, operands: &Operands<'_>) -> Act
+    requires { NamesKnown raw.now slots.now (instructions.Serial instr) }
     ensures { meaning result ≡ act raw.now slots.now instr operands.now }
 {
     match instr {
-        Instr::Constant(value) => going(0, Some(Operand::Int(value))),
-        Instr::Duplicate => duplicate(operands),
-        Instr::Pop => pop(operands),
-        Instr::Nop => going(0, None),
-        Instr::Unary(operator) => unary(operator, operands),
-        Instr::Binary(operator) => binary(operator, operands),
-        Instr::Jump(target) => jump(target, 0),
-        Instr::JumpIfZero(target) => jump_if_zero(target, operands),
-        Instr::Use => use_value(operands),
-        Instr::Load(place) => Act::Loads {
+        Serial::Constant(value) => going(0, Some(Operand::Int(value))),
+        Serial::Duplicate => duplicate(operands),
+        Serial::Pop => pop(operands),
+        Serial::Nop => going(0, None),
+        Serial::Unary(operator) => unary(operator, operands),
+        Serial::Binary(operator) => binary(operator, operands),
+        Serial::Jump(target) => jump(target, 0),
+        Serial::JumpIfZero(target) => jump_if_zero(target, operands),
+        Serial::Use => use_value(operands),
+        Serial::Load(place) => Act::Loads {
             place,
             index: 0,
             takes: 0,
         },
-        Instr::Store { place, keeps } => store(place, keeps, operands),
-        Instr::LoadElement(place) => load_element(place, cells_in(raw, slots, place), operands),
-        Instr::StoreElement { place, keeps } => {
+        Serial::Store { place, keeps } => store(place, keeps, operands),
+        Serial::LoadElement(place) => load_element(place, cells_in(raw, slots, place), operands),
+        Serial::StoreElement { place, keeps } => {
             store_element(place, cells_in(raw, slots, place), keeps, operands)
         }
-        Instr::Clear(slot) => Act::Clears(slot),
-        Instr::Print { text, values } => print(text, values, operands),
-        Instr::Atomic {
+        Serial::Clear(slot) => Act::Clears(slot),
+        Serial::Print { text, values } => print(text, values, operands),
+        Serial::Atomic {
             operator,
             side,
             place,
         } => update_scalar(place, operator, side, operands),
-        Instr::AtomicElement {
+        Serial::AtomicElement {
             operator,
             side,
             place,
         } => update_element(place, cells_in(raw, slots, place), operator, side, operands),
-        Instr::Return => return_value(operands),
-        Instr::ReturnNothing => Act::Turns(Turn::Returns(Operand::NoValue)),
-        Instr::Finish { has_value } => finish(has_value, operands),
-        _ => LACKS,
     }
 }
-
-// An operand is missing or is no int, or the instruction has no row here.
-const LACKS: Act = Act::Turns(Turn::Lacks);
 
 // To the next instruction, with so many operands taken and then one pushed.
 fn going(takes: u32, pushed: Option<Operand>) -> Act
@@ -97,7 +91,7 @@ fn duplicate(operands: &Operands<'_>) -> Act
 {
     match operands.top() {
         Some(top) => going(0, Some(*top)),
-        None => LACKS,
+        None => Act::Turns(Turn::Lacks),
     }
 }
 
@@ -107,7 +101,7 @@ fn pop(operands: &Operands<'_>) -> Act
 {
     match operands.top() {
         Some(_) => going(1, None),
-        None => LACKS,
+        None => Act::Turns(Turn::Lacks),
     }
 }
 
@@ -117,7 +111,7 @@ fn unary(operator: UnaryOperator, operands: &Operands<'_>) -> Act
 {
     match int_at(operands, 0) {
         Some(a) => gives(1, operate_on_one(operator, a)),
-        None => LACKS,
+        None => Act::Turns(Turn::Lacks),
     }
 }
 
@@ -127,7 +121,7 @@ fn binary(operator: BinaryOperator, operands: &Operands<'_>) -> Act
 {
     match (int_at(operands, 1), int_at(operands, 0)) {
         (Some(a), Some(b)) => gives(2, operate(operator, a, b)),
-        (None, _) | (_, None) => LACKS,
+        _ => Act::Turns(Turn::Lacks),
     }
 }
 
@@ -148,7 +142,7 @@ fn jump_if_zero(target: u32, operands: &Operands<'_>) -> Act
     match int_at(operands, 0) {
         Some(0) => jump(target, 1),
         Some(_) => going(1, None),
-        None => LACKS,
+        None => Act::Turns(Turn::Lacks),
     }
 }
 
@@ -159,7 +153,7 @@ fn use_value(operands: &Operands<'_>) -> Act
     match operands.top() {
         Some(Operand::Int(_)) => going(0, None),
         Some(Operand::NoValue) => Act::Turns(Turn::Faults(Fault::NoValue)),
-        None => LACKS,
+        None => Act::Turns(Turn::Lacks),
     }
 }
 
@@ -175,19 +169,16 @@ fn store(place: Place, keeps: bool, operands: &Operands<'_>) -> Act
             pushed: None,
             value,
         },
-        None => LACKS,
+        None => Act::Turns(Turn::Lacks),
     }
 }
-
-// An index that lies outside its array (C17 6.5.6p8).
-const OUTSIDE: Act = Act::Turns(Turn::Faults(Fault::Index));
 
 // LOADX, from a variable of so many cells.
 fn load_element(place: Place, cells: u32, operands: &Operands<'_>) -> Act
     ensures { meaning result ≡ load_element place cells operands.now }
 {
     let Some(at) = int_at(operands, 0) else {
-        return LACKS;
+        return Act::Turns(Turn::Lacks);
     };
     match index_in(cells, at) {
         Some(index) => Act::Loads {
@@ -195,7 +186,7 @@ fn load_element(place: Place, cells: u32, operands: &Operands<'_>) -> Act
             index,
             takes: 1,
         },
-        None => OUTSIDE,
+        None => Act::Turns(Turn::Faults(Fault::Index)),
     }
 }
 
@@ -204,7 +195,7 @@ fn store_element(place: Place, cells: u32, keeps: bool, operands: &Operands<'_>)
     ensures { meaning result ≡ store_element place cells keeps operands.now }
 {
     let (Some(at), Some(value)) = (int_at(operands, 1), int_at(operands, 0)) else {
-        return LACKS;
+        return Act::Turns(Turn::Lacks);
     };
     match index_in(cells, at) {
         Some(index) => Act::Stores {
@@ -214,7 +205,7 @@ fn store_element(place: Place, cells: u32, keeps: bool, operands: &Operands<'_>)
             pushed: keeps.then_some(Operand::Int(value)),
             value,
         },
-        None => OUTSIDE,
+        None => Act::Turns(Turn::Faults(Fault::Index)),
     }
 }
 
@@ -225,7 +216,7 @@ fn print(text: u32, values: u16, operands: &Operands<'_>) -> Act
     if has_ints(usize::from(values), operands) {
         Act::Prints { text, values }
     } else {
-        LACKS
+        Act::Turns(Turn::Lacks)
     }
 }
 
@@ -242,7 +233,7 @@ fn update_scalar(place: Place, operator: AtomicOperator, side: Side, operands: &
             side,
             operand,
         },
-        None => LACKS,
+        None => Act::Turns(Turn::Lacks),
     }
 }
 
@@ -257,7 +248,7 @@ fn update_element(
     ensures { meaning result ≡ update_element place cells operator side operands.now }
 {
     let (Some(at), Some(operand)) = (int_at(operands, 1), int_at(operands, 0)) else {
-        return LACKS;
+        return Act::Turns(Turn::Lacks);
     };
     match index_in(cells, at) {
         Some(index) => Act::Updates {
@@ -268,30 +259,7 @@ fn update_element(
             side,
             operand,
         },
-        None => OUTSIDE,
-    }
-}
-
-// RET: the frame ends with the top operand.
-fn return_value(operands: &Operands<'_>) -> Act
-    ensures { meaning result ≡ return_value operands.now }
-{
-    match int_at(operands, 0) {
-        Some(value) => Act::Turns(Turn::Returns(Operand::Int(value))),
-        None => LACKS,
-    }
-}
-
-// FIN: the program ends with the top operand, or with 0.
-fn finish(has_value: bool, operands: &Operands<'_>) -> Act
-    ensures { meaning result ≡ finish has_value operands.now }
-{
-    if !has_value {
-        return Act::Turns(Turn::Finishes(0));
-    }
-    match int_at(operands, 0) {
-        Some(value) => Act::Turns(Turn::Finishes(value)),
-        None => LACKS,
+        None => Act::Turns(Turn::Faults(Fault::Index)),
     }
 }
 

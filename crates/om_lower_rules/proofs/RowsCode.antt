@@ -6,6 +6,7 @@ use Rattle.om_code.specs.declared.instruction.AtomicOperator.{AtomicOperator}
 use Rattle.om_code.specs.declared.instruction.BinaryOperator as machine
 use Rattle.om_code.specs.declared.instruction.Comparison.{Comparison}
 use Rattle.om_code.specs.declared.instruction.Instr.TheVariants as i
+use Rattle.om_code.specs.declared.instruction.Serial.TheVariants as serials
 use Rattle.om_code.specs.declared.instruction.Side.{Side}
 use Rattle.om_scope_tree.specs.declared.resolved.ConstructKind.TheVariants as constructs
 use Rattle.om_scope_tree.specs.declared.resolved.LocalVariable.{LocalVariable}
@@ -265,7 +266,7 @@ module _ (at : Site) where
     parts_say NoParts n l grab places p q r = tt
     parts_say (Part items rest) n l grab places p q r =
         with_place_says places
-        (λ x xs. here x ▸ part (statements at n items nowhere) ▸ ins at l (i.Jump grab) ▸ parts at
+        (λ x xs. here x ▸ part (statements at n items nowhere) ▸ ins at l (i.Serial (serials.Jump grab)) ▸ parts at
         (behind_all n items) l grab rest xs)
         (StatementsAreCoded false false false items × PartsAreCoded false rest)
         (λ x xs p q r. let u = r.1 in (

@@ -3,6 +3,8 @@ use Rattle.std.specs.Prelude.{◌≡◌, ℕ, List, [], Some, false, length, map
 use Rattle.std.specs.List.{AllZip}
 use Rattle.om_code.specs.declared.instruction.Barrier.TheVariants as barriers
 use Rattle.om_code.specs.declared.instruction.Instr.TheVariants as i
+use Rattle.om_code.specs.declared.instruction.Team.TheVariants as teams
+use Rattle.om_code.specs.declared.instruction.Task.TheVariants as taskings
 use Rattle.om_code.specs.declared.raw.Body.{Body}
 use Rattle.om_code.specs.declared.raw.GlobalVariable as raws
 use Rattle.om_code.specs.declared.raw.Names.{Names}
@@ -30,11 +32,11 @@ abbrev pub body_row : Site → Numbers → ResolvedFunctionTree → BodyTree →
 body_row at n f FunctionBody =
     part (statements at n f.body nowhere) ▸ ins at f.closing_line (last_instruction at.is_main false) ▸ end
 body_row at n f (RegionBody first kinds.Parallel clauses captures s) =
-    ins at first.line i.Begin ▸ part (reduction_starts at first.line clauses) ▸ part (statement at n s nowhere)
-    ▸ part (reductions at first.line clauses) ▸ ins at first.line (i.Arrive barriers.Parallel) ▸ ins at first.line
-    i.Leave ▸ end
+    ins at first.line (i.Team teams.Begin) ▸ part (reduction_starts at first.line clauses) ▸ part (statement at n s nowhere)
+    ▸ part (reductions at first.line clauses) ▸ ins at first.line (i.Team (teams.Arrive barriers.Parallel)) ▸ ins at first.line
+    (i.Team teams.Leave) ▸ end
 body_row at n f (RegionBody first kinds.Task clauses captures s) =
-    part (statement at n s nowhere) ▸ ins at first.line i.TaskEnd ▸ end
+    part (statement at n s nowhere) ▸ ins at first.line (i.Task taskings.TaskEnd) ▸ end
 
 -- the variables that get the values with which a frame of a body begins
 abbrev pub given_variables : ResolvedFunctionTree → BodyTree → List ℕ

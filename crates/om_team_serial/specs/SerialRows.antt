@@ -3,7 +3,7 @@ use Rattle.std.specs.Prelude.{ℕ, ◌+◌, ℤ, pos, nat_le, if◌then◌else�
 use Rattle.std.specs.Prelude.{List, [], ◌∷◌, ◌++◌, length}
 use Rattle.om_foot.specs.declared.object.Obj.TheVariants as obj
 use Rattle.om_foot.specs.declared.footprint.Access.{Access}
-use Rattle.om_code.specs.declared.instruction.Instr.{Instr}
+use Rattle.om_code.specs.declared.instruction.Serial.{Serial}
 use Rattle.om_code.specs.declared.instruction.Place.{Place}
 use Rattle.om_code.specs.declared.instruction.Place.TheVariants as place
 use Rattle.om_code.specs.declared.instruction.Reduction.{Reduction}
@@ -101,7 +101,7 @@ abbrev pub act_row : Raw → Context → Act → Asked
 act_row raw c a = touch_row raw c a.turn a.touch
 
 -- the row of an instruction of the frame machine that goes on in its frame
-abbrev pub serial_row : Raw → Context → Instr → Asked
+abbrev pub serial_row : Raw → Context → Serial → Asked
 serial_row raw c instr = act_row raw c (act raw (slots_in raw c) instr c.frame.operands)
 
 -- OpenMP 5.2, 18.2: the thread number, and the size of the team

@@ -2,6 +2,7 @@
 
 ghost use Rattle.std.specs.Prelude.{◌≡◌, ◌++◌, ◌<◌, ◌+◌, ◌^◌, ◌∷◌, [], Some, slice_get, unwrap_or, option_map};
 ghost use Rattle.om_foot.specs.declared.object.Obj.TheVariants as obj;
+ghost use Rattle.om_code.specs.declared.instruction.Instr.TheVariants as instructions;
 ghost use Rattle.om_code.specs.Frames.{act, meaning, IsThere};
 ghost use Rattle.om_code.specs.Places.{slots_of};
 ghost use Rattle.om_code.specs.Validity.{NamesKnown};
@@ -22,7 +23,7 @@ use om_code::instruction::Place;
 use om_code::print::print_bytes;
 use om_code::raw::Slot;
 use om_code::serial::act_of;
-use om_code::{Instr, Raw};
+use om_code::{Raw, Serial};
 use om_foot::{Access, Mode, Names, Obj};
 use om_memory::{Context, Memory};
 use om_seq::{AllocResult, Seq};
@@ -195,9 +196,9 @@ pub fn serial(
     raw: &Raw,
     store: &Memory,
     context: &Context,
-    instr: Instr,
+    instr: Serial,
 ) -> AllocResult<Answer>
-    requires names { NamesKnown raw.now (slots_in raw.now (plain_context context.now)) instr }
+    requires names { NamesKnown raw.now (slots_in raw.now (plain_context context.now)) (instructions.Serial instr) }
     requires next { (plain_context context.now).frame.next + 1 < 2 ^ 32 }
     ensures { AnswersAt result (serial_row raw.now (plain_context context.now) instr) store.now }
 {

@@ -1,4 +1,5 @@
 use Rattle.std.proofs.Common.{subst, sym}
+use Rattle.om_code.specs.declared.instruction.Instr.TheVariants as i
 use Rattle.om_code.specs.Frames.{Act, IsThere, IsRight}
 use Rattle.om_code.specs.Rights.{act_right}
 use Rattle.om_code.proofs.Touches.{touch_there}
@@ -11,5 +12,5 @@ returns-clause-there c =
 
 pub returns-clause-right : goal.returns-clause-right
 returns-clause-right c = λ cell.
-    subst (λ (a : Act). IsRight c.args.instr (a.turn cell)) (sym c.row.ensures)
+    subst (λ (a : Act). IsRight (i.Serial c.args.instr) (a.turn cell)) (sym c.row.ensures)
     (act_right c.args.raw.now c.args.slots.now c.args.instr c.args.operands.now cell)

@@ -3,17 +3,17 @@
 ghost use Rattle.std.specs.Prelude.{◌≡◌};
 ghost use Rattle.om_memory.specs.Plain.{plain_context};
 ghost use Rattle.om_team_serial.specs.Answers.{Gives, AnswersAt};
-ghost use Rattle.om_team.specs.Rows.{value_of, finished, finish_row};
+ghost use Rattle.om_team_serial.specs.Ends.{value_of, finished, finish_row};
 
+use crate::names::operands_of;
+use crate::parts::{is_zero, name_with_events, update_with_event};
+use crate::{Answer, Row};
 use om_code::serial::int_at;
 use om_events::{Endpoint, Record, TaskFlag};
 use om_foot::{Mode, Name, Obj, Shared};
 use om_memory::{Context, Memory};
 use om_seq::{AllocResult, Seq};
 use om_state::{Blocked, Edit, Kind, Update};
-use om_team_serial::names::operands_of;
-use om_team_serial::parts::{is_zero, name_with_events, update_with_event};
-use om_team_serial::{Answer, Row};
 use std::alloc::Global;
 
 // What comes of an initial task that is at its end, with this value.

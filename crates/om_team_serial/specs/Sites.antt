@@ -7,6 +7,8 @@ use Rattle.om_code.specs.declared.frame.Operand.{Operand}
 use Rattle.om_code.specs.Places.{slots_of, line_at, no_body}
 use Rattle.om_state.specs.declared.control.Stack.{Stack}
 use Rattle.om_state.specs.declared.control.Context.{Context}
+use Rattle.om_memory.specs.Plain.{plain_stack}
+use Rattle.om_team_serial.specs.declared.here.Here.{Here}
 use Rattle.om_team_serial.specs.declared.row.Launch.{Launch}
 
 -- a worker of so many, which runs a stack of a program
@@ -18,6 +20,10 @@ pub record Site : Type 0 where
 
 abbrev pub site : Raw → ℕ → ℕ → Stack → Site
 site program workers worker stack = record { program = program; workers = workers; worker = worker; stack = stack }
+
+-- the site at which code stands
+abbrev pub site_of : Here → Site
+site_of h = site h.program.now h.workers h.worker (plain_stack h.stack.now)
 
 -- the context that runs, its operands, and the place behind its instruction
 abbrev pub context : Site → Context
