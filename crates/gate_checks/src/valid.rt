@@ -150,5 +150,6 @@ fn body_of(alloc: Global, code: &[Instr], slots: u32) -> AllocResult<Body> {
             scopes: Seq::new(alloc),
             outer: Seq::new(alloc),
         },
+        atomic: Seq::new(alloc),
     })
 }

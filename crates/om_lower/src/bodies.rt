@@ -198,6 +198,7 @@ fn add_with(made: &mut Bodies, seen: &SeenBody<'_>, slots: Seq<Slot>) -> AllocRe
         slots,
         given,
         names,
+        atomic: Seq::new(alloc),
     };
     put_body(made, body, lists)?;
     Ok(true)
