@@ -2,7 +2,12 @@
 use Rattle.std.specs.Prelude.{◌≡◌, ◌≢◌, ℕ, ◌<◌, Bool, true, false, cond, nat_eq, nat_lt, ◌&&◌, ◌||◌, is_some}
 use Rattle.std.specs.Prelude.{Option, None, Some, List, [], ◌∷◌, ◌++◌, zero, suc, length, Contains, if◌then◌else◌}
 use Rattle.om_code.specs.declared.instruction.Instr.{Instr}
-use Rattle.om_code.specs.declared.instruction.Instr.TheVariants as instr
+use Rattle.om_code.specs.declared.instruction.Instr.TheVariants as i
+use Rattle.om_code.specs.declared.instruction.Serial.TheVariants as serials
+use Rattle.om_code.specs.declared.instruction.Function.TheVariants as calls
+use Rattle.om_code.specs.declared.instruction.Team.TheVariants as teams
+use Rattle.om_code.specs.declared.instruction.Sharing.TheVariants as sharings
+use Rattle.om_code.specs.declared.instruction.Task.TheVariants as taskings
 use Rattle.om_code.specs.declared.raw.Raw.{Raw}
 use Rattle.om_code.specs.Places.{instruction_at}
 use Rattle.om_foot.specs.declared.footprint.Access.{Access}
@@ -50,13 +55,13 @@ instruction_of program control (Start task) = None
 
 -- OpenMP 5.2, 15.8.4: an update of `atomic`
 abbrev pub is_update : Option Instr → Bool
-is_update (Some (instr.Atomic operator side place)) = true
-is_update (Some (instr.AtomicElement operator side place)) = true
+is_update (Some (i.Serial (serials.Atomic operator side place))) = true
+is_update (Some (i.Serial (serials.AtomicElement operator side place))) = true
 is_update _ = false
 
 -- OpenMP 5.2, 5.5: a reduction's update of the original variable. It is atomic with others of its kind alone
 abbrev pub is_reduction : Option Instr → Bool
-is_reduction (Some (instr.Reduce reduction copy place)) = true
+is_reduction (Some (i.Sharing (sharings.Reduce reduction copy place))) = true
 is_reduction _ = false
 
 -- two instructions whose accesses of one variable are ordered by being atomic
@@ -77,17 +82,17 @@ pub record IsRace (program : Raw) (workers : ℕ) (s : State) (a b : Label) (x y
 
 -- C17 6.2.4: an instruction that ends the lives of variables, or makes one unset where it is declared
 abbrev pub ends_lives : Option Instr → Bool
-ends_lives (Some (instr.Clear slot)) = true
-ends_lives (Some instr.Return) = true
-ends_lives (Some instr.ReturnNothing) = true
-ends_lives (Some instr.Leave) = true
-ends_lives (Some instr.TaskEnd) = true
+ends_lives (Some (i.Serial (serials.Clear slot))) = true
+ends_lives (Some (i.Function calls.Return)) = true
+ends_lives (Some (i.Function calls.ReturnNothing)) = true
+ends_lives (Some (i.Team teams.Leave)) = true
+ends_lives (Some (i.Task taskings.TaskEnd)) = true
 ends_lives _ = false
 
 -- how an instruction accesses a variable, by the mode
 abbrev pub kind_of : Option Instr → Mode → AccessKind
-kind_of i mode.Write = cond (ends_lives i) Ends Writes
-kind_of i _ = Reads
+kind_of instr mode.Write = cond (ends_lives instr) Ends Writes
+kind_of instr _ = Reads
 
 abbrev pub kind_number : AccessKind → ℕ
 kind_number Reads = 0

@@ -4,7 +4,7 @@ ghost use Rattle.std.specs.Prelude.{◌≡◌};
 ghost use Rattle.lab_explore_closed.specs.Races.{is_data, is_update, is_reduction, are_atomic_together, ends_lives, kind_of, is_behind};
 
 use lab_explore_closed::{AccessKind, Place};
-use om_code::Instr;
+use om_code::{Function, Instr, Serial, Sharing, Task, Team};
 use om_foot::{Mode, Obj};
 
 /// Whether an object is a cell of a variable.
@@ -33,7 +33,7 @@ fn is_update(instruction: Option<Instr>) -> bool
 {
     matches!(
         instruction,
-        Some(Instr::Atomic { .. }) | Some(Instr::AtomicElement { .. })
+        Some(Instr::Serial(Serial::Atomic { .. } | Serial::AtomicElement { .. }))
     )
 }
 
@@ -41,7 +41,7 @@ fn is_update(instruction: Option<Instr>) -> bool
 fn is_reduction(instruction: Option<Instr>) -> bool
     ensures { result ≡ is_reduction instruction }
 {
-    matches!(instruction, Some(Instr::Reduce { .. }))
+    matches!(instruction, Some(Instr::Sharing(Sharing::Reduce { .. })))
 }
 
 /// Whether accesses of one variable by two instructions are ordered by being atomic.
@@ -57,11 +57,10 @@ fn ends_lives(instruction: Option<Instr>) -> bool
 {
     matches!(
         instruction,
-        Some(Instr::Clear(_))
-            | Some(Instr::Return)
-            | Some(Instr::ReturnNothing)
-            | Some(Instr::Leave)
-            | Some(Instr::TaskEnd)
+        Some(Instr::Serial(Serial::Clear(_)))
+            | Some(Instr::Function(Function::Return | Function::ReturnNothing))
+            | Some(Instr::Team(Team::Leave))
+            | Some(Instr::Task(Task::TaskEnd))
     )
 }
 
