@@ -1,7 +1,7 @@
 //! What an instruction does to a variable that it accesses.
 
 ghost use Rattle.std.specs.Prelude.{◌≡◌};
-ghost use Rattle.lab_explore_closed.specs.Races.{is_data, is_update, is_reduction, are_atomic_together, ends_lives, kind_of, is_behind};
+ghost use Rattle.lab_explore_closed.specs.Races.{is_data, is_update, is_reduction, is_combining, are_atomic_together, ends_lives, kind_of, is_behind};
 
 use lab_explore_closed::{AccessKind, Place};
 use om_code::{Function, Instr, Serial, Sharing, Task, Team};
@@ -37,18 +37,35 @@ fn is_update(instruction: Option<Instr>) -> bool
     )
 }
 
-// Whether an instruction is a reduction's update of the original variable.
+// Whether an instruction combines the copy of a reduction with the original variable.
 fn is_reduction(instruction: Option<Instr>) -> bool
     ensures { result ≡ is_reduction instruction }
 {
     matches!(instruction, Some(Instr::Sharing(Sharing::Reduce { .. })))
 }
 
-/// Whether accesses of one variable by two instructions are ordered by being atomic.
-pub(crate) fn are_atomic_together(first: Option<Instr>, second: Option<Instr>) -> bool
-    ensures { result ≡ are_atomic_together first second }
+// Whether an access combines: a reduction writes the original, and reads its copy as any other instruction does.
+fn is_combining(instruction: Option<Instr>, mode: Mode) -> bool
+    ensures { result ≡ is_combining instruction mode }
 {
-    (is_update(first) && is_update(second)) || (is_reduction(first) && is_reduction(second))
+    match mode {
+        Mode::Write => is_reduction(instruction),
+        Mode::Read => false,
+        Mode::Add => false,
+    }
+}
+
+/// Whether accesses of one variable by two instructions, in these modes, are ordered by being atomic.
+pub(crate) fn are_atomic_together(
+    first: Option<Instr>,
+    mode: Mode,
+    second: Option<Instr>,
+    other: Mode,
+) -> bool
+    ensures { result ≡ are_atomic_together first mode second other }
+{
+    (is_update(first) && is_update(second))
+        || (is_combining(first, mode) && is_combining(second, other))
 }
 
 // Whether an instruction ends the lives of variables, or makes one unset.
@@ -71,7 +88,7 @@ pub(crate) fn kind_of(instruction: Option<Instr>, mode: Mode) -> AccessKind
     match mode {
         Mode::Write => write_of(instruction),
         Mode::Read => AccessKind::Reads,
-        Mode::Add => AccessKind::Reads,
+        Mode::Add => AccessKind::Writes,
     }
 }
 
