@@ -2,7 +2,7 @@
 
 use om_code::instruction::Place;
 use om_code::raw::{Line, Names, Scope, Slot, Source};
-use om_code::{Body, CodeFault, Instr, Program, Raw, validate};
+use om_code::{Body, CodeFault, Function, Instr, Program, Raw, Serial, validate};
 use om_seq::{AllocResult, Seq};
 use std::alloc::Global;
 
@@ -19,25 +19,25 @@ pub(crate) fn code_is_judged(alloc: Global) -> AllocResult<bool> {
 }
 
 // Ends the program without a value.
-const END: Instr = Instr::Finish { has_value: false };
+const END: Instr = Instr::Function(Function::Finish { has_value: false });
 
 // Ends the program with the top operand.
-const END_WITH: Instr = Instr::Finish { has_value: true };
+const END_WITH: Instr = Instr::Function(Function::Finish { has_value: true });
 
 fn refuses_jumps_out(alloc: Global) -> AllocResult<bool> {
-    let judged = judged(alloc, &[Instr::Jump(7), END], 0)?;
+    let judged = judged(alloc, &[Instr::Serial(Serial::Jump(7)), END], 0)?;
     Ok(matches!(judged, Err(CodeFault::JumpOut)))
 }
 
 fn refuses_missing_operands(alloc: Global) -> AllocResult<bool> {
-    let judged = judged(alloc, &[Instr::Pop, END], 0)?;
+    let judged = judged(alloc, &[Instr::Serial(Serial::Pop), END], 0)?;
     Ok(matches!(judged, Err(CodeFault::Heights)))
 }
 
 fn refuses_high_stacks(alloc: Global) -> AllocResult<bool> {
     let mut code = Vec::new(alloc);
     for _ in 0..257 {
-        code.push(Instr::Constant(1))?;
+        code.push(Instr::Serial(Serial::Constant(1)))?;
     }
     code.push(END_WITH)?;
     let judged = judged(alloc, code.as_slice(), 0)?;
@@ -45,7 +45,7 @@ fn refuses_high_stacks(alloc: Global) -> AllocResult<bool> {
 }
 
 fn refuses_unknown_slots(alloc: Global) -> AllocResult<bool> {
-    let load = Instr::Load(Place::Slot(3));
+    let load = Instr::Serial(Serial::Load(Place::Slot(3)));
     let judged = judged(alloc, &[load, END_WITH], 2)?;
     Ok(matches!(judged, Err(CodeFault::Unknown)))
 }
@@ -73,8 +73,17 @@ fn scope_of(alloc: Global, slot: u32) -> AllocResult<Scope> {
 }
 
 fn accepts_valid_code(alloc: Global) -> AllocResult<bool> {
-    let load = Instr::Load(Place::Slot(1));
-    match judged(alloc, &[Instr::Constant(5), Instr::Pop, load, END_WITH], 2)? {
+    let load = Instr::Serial(Serial::Load(Place::Slot(1)));
+    match judged(
+        alloc,
+        &[
+            Instr::Serial(Serial::Constant(5)),
+            Instr::Serial(Serial::Pop),
+            load,
+            END_WITH,
+        ],
+        2,
+    )? {
         Ok(program) => Ok(is_as_given(&program)),
         Err(_) => Ok(false),
     }
@@ -83,12 +92,18 @@ fn accepts_valid_code(alloc: Global) -> AllocResult<bool> {
 // Whether a program has the valid code, and nothing else.
 fn is_as_given(program: &Program) -> bool {
     program.bodies().len() == 1
-        && matches!(program.instruction(0, 0), Some(Instr::Constant(5)))
-        && matches!(program.instruction(0, 1), Some(Instr::Pop))
-        && matches!(program.instruction(0, 2), Some(Instr::Load(Place::Slot(1))))
+        && matches!(
+            program.instruction(0, 0),
+            Some(Instr::Serial(Serial::Constant(5)))
+        )
+        && matches!(program.instruction(0, 1), Some(Instr::Serial(Serial::Pop)))
+        && matches!(
+            program.instruction(0, 2),
+            Some(Instr::Serial(Serial::Load(Place::Slot(1))))
+        )
         && matches!(
             program.instruction(0, 3),
-            Some(Instr::Finish { has_value: true })
+            Some(Instr::Function(Function::Finish { has_value: true }))
         )
         && program.instruction(0, 4).is_none()
 }
@@ -135,5 +150,6 @@ fn body_of(alloc: Global, code: &[Instr], slots: u32) -> AllocResult<Body> {
             scopes: Seq::new(alloc),
             outer: Seq::new(alloc),
         },
+        atomic: Seq::new(alloc),
     })
 }

@@ -18,8 +18,11 @@ fn global(index: u32) -> Obj
 }
 
 // Whether what a store keeps for an object is this int.
-fn holds(alloc: Global, store: &Store, object: &Obj, number: i32) -> bool {
-    store.get(object).is_some() && store.cell(alloc, object) == Cell::Int(number)
+fn holds(store: &Store, object: &Obj, number: i32) -> bool {
+    match store.get(object) {
+        Some(value) => value.cell() == Cell::Int(number),
+        None => false,
+    }
 }
 
 /// Whether `remove` leaves nothing but the default at its object, and leaves another object as it
@@ -28,8 +31,8 @@ pub(crate) fn is_removed_alone(alloc: Global) -> AllocResult<bool> {
     let mut store = Store::new(alloc);
     store.create(alloc, &global(0), Val::Cell(Cell::Int(7)))?;
     store.create(alloc, &global(1), Val::Cell(Cell::Int(8)))?;
-    let kept = holds(alloc, &store, &global(0), 7) && holds(alloc, &store, &global(1), 8);
+    let kept = holds(&store, &global(0), 7) && holds(&store, &global(1), 8);
     store.remove(&global(0));
     let gone = store.get(&global(0)).is_none();
-    Ok(kept && gone && holds(alloc, &store, &global(1), 8))
+    Ok(kept && gone && holds(&store, &global(1), 8))
 }

@@ -2,7 +2,7 @@
 
 ghost use Rattle.std.specs.Prelude.{◌<◌};
 
-use om_code::{Instr, Program};
+use om_code::{Instr, Program, Region};
 use om_memory::Control;
 use om_seq::AllocResult;
 use om_state::{Blocked, Choice};
@@ -94,7 +94,7 @@ fn lock_asked(program: &Program, control: Option<&Control>) -> Option<u32> {
     };
     let frame = &stack.top.frame;
     match program.instruction(frame.body, frame.next)? {
-        Instr::AskCritical(lock) | Instr::EnterCritical(lock) => Some(lock),
+        Instr::Region(Region::AskCritical(lock) | Region::EnterCritical(lock)) => Some(lock),
         _ => None,
     }
 }

@@ -4,7 +4,7 @@ use crate::function::function_at;
 use crate::names::Accepted;
 use crate::words::number;
 use om_code::raw::{Scope, Source};
-use om_code::{Body, Instr, Program};
+use om_code::{Body, Instr, Program, Task, Team};
 use om_seq::AllocResult;
 use om_shell_commands::push_numbered;
 use std::alloc::Global;
@@ -37,7 +37,7 @@ fn place_of(parts: &[&[u8]]) -> Option<Place> {
 fn starts(number: usize, instruction: Instr) -> bool {
     matches!(
         instruction,
-        Instr::Fork { body, .. } | Instr::Spawn { body, .. } if body as usize == number
+        Instr::Team(Team::Fork { body, .. }) | Instr::Task(Task::Spawn { body, .. }) if body as usize == number
     )
 }
 

@@ -1,7 +1,7 @@
 //! The variable that an instruction names, as the source has it.
 
 use om_code::instruction::Place;
-use om_code::{Instr, Program};
+use om_code::{Instr, Program, Serial, Sharing};
 use om_code_places::{Var, variable_at};
 use om_foot::{Access, Obj};
 use om_memory::Frame;
@@ -20,18 +20,22 @@ pub(crate) struct Local<'a> {
 /// variable names its copy, which has the variable's name where the two are combined.
 pub(crate) fn place_of(instruction: Instr) -> Option<Place> {
     match instruction {
-        Instr::Reduce {
-            copy,
-            place: Place::Slot(_),
-            ..
-        } => Some(Place::Slot(copy)),
-        Instr::Load(place)
-        | Instr::Store { place, .. }
-        | Instr::LoadElement(place)
-        | Instr::StoreElement { place, .. }
-        | Instr::Atomic { place, .. }
-        | Instr::AtomicElement { place, .. }
-        | Instr::Reduce { place, .. } => Some(place),
+        Instr::Sharing(
+            Sharing::Reduce {
+                copy,
+                place: Place::Slot(_),
+                ..
+            },
+        ) => Some(Place::Slot(copy)),
+        Instr::Serial(
+            Serial::Load(place)
+            | Serial::Store { place, .. }
+            | Serial::LoadElement(place)
+            | Serial::StoreElement { place, .. }
+            | Serial::Atomic { place, .. }
+            | Serial::AtomicElement { place, .. },
+        )
+        | Instr::Sharing(Sharing::Reduce { place, .. }) => Some(place),
         _ => None,
     }
 }

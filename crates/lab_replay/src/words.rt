@@ -7,7 +7,7 @@ use crate::value::{number_put, push_value};
 use crate::variable::{local_at, place_of, push_index, push_variable};
 use om_code::frame::Fault;
 use om_code::instruction::Place;
-use om_code::{Instr, Program};
+use om_code::{Function, Instr, Program, Region, Serial, Sharing, Task, Team};
 use om_memory::{Control, Frame, Memory};
 use om_seq::{AllocResult, Seq};
 use om_shell_commands::push_numbered;
@@ -110,14 +110,13 @@ fn push_instruction(
     let Some(instruction) = program.instruction(frame.body, frame.next) else {
         return Ok(());
     };
-    if let Some(word) = name_in_sequence(instruction).or(name_in_construct(instruction)) {
-        name.extend_from_slice(word)?;
-    }
+    name.extend_from_slice(name_of(instruction))?;
     if let Some(place) = place_of(instruction) {
         return push_place(named, program, frame, place, plan);
     }
-    let (Instr::AskCritical(lock) | Instr::EnterCritical(lock) | Instr::LeaveCritical(lock)) =
-        instruction
+    let Instr::Region(
+        Region::AskCritical(lock) | Region::EnterCritical(lock) | Region::LeaveCritical(lock),
+    ) = instruction
     else {
         return Ok(());
     };
@@ -168,66 +167,98 @@ fn push_place(
     }
 }
 
-// The name of an instruction of C; `None` for those of OpenMP.
-fn name_in_sequence(instruction: Instr) -> Option<&'static [u8]> {
-    let name: &'static [u8] = match instruction {
-        Instr::Constant(_) => b"CONST",
-        Instr::Duplicate => b"DUP",
-        Instr::Pop => b"POP",
-        Instr::Nop => b"NOP",
-        Instr::Unary(_) => b"UN",
-        Instr::Binary(_) => b"BIN",
-        Instr::Jump(_) => b"JMP",
-        Instr::JumpIfZero(_) => b"JZ",
-        Instr::ThreadNumber => b"TNUM",
-        Instr::TeamSize => b"TSIZE",
-        Instr::Use => b"USE",
-        Instr::Load(_) => b"LOAD",
-        Instr::Store { .. } => b"STORE",
-        Instr::LoadElement(_) => b"LOADX",
-        Instr::StoreElement { .. } => b"STOREX",
-        Instr::Clear(_) => b"CLEAR",
-        Instr::Call { .. } => b"CALL",
-        Instr::Return => b"RET",
-        Instr::ReturnNothing => b"RETN",
-        Instr::Print { .. } => b"PRINT",
-        Instr::Atomic { .. } => b"ATOM",
-        Instr::AtomicElement { .. } => b"ATOMX",
-        Instr::Finish { .. } => b"FIN",
-        _ => return None,
-    };
-    Some(name)
+// The name of an instruction.
+fn name_of(instruction: Instr) -> &'static [u8] {
+    match instruction {
+        Instr::Serial(serial) => serial_name(serial),
+        Instr::Function(function) => function_name(function),
+        Instr::Team(team) => team_name(team),
+        Instr::Sharing(sharing) => sharing_name(sharing),
+        Instr::Region(region) => region_name(region),
+        Instr::Task(task) => task_name(task),
+    }
 }
 
-// The name of an instruction of OpenMP; `None` for those of C.
-fn name_in_construct(instruction: Instr) -> Option<&'static [u8]> {
-    let name: &'static [u8] = match instruction {
-        Instr::Fork { .. } => b"FORK",
-        Instr::Begin => b"BEGIN",
-        Instr::Loop(_) => b"LOOP",
-        Instr::Sections(_) => b"SECT",
-        Instr::Grab(_) => b"GRAB",
-        Instr::Iterate { .. } => b"ITER",
-        Instr::Pick(_) => b"PICK",
-        Instr::Single(_) => b"SINGLE",
-        Instr::EndWorksharing => b"ENDW",
-        Instr::Masked(_) => b"MASKED",
-        Instr::EndMasked => b"ENDM",
-        Instr::AskCritical(_) => b"CRACQ",
-        Instr::EnterCritical(_) => b"CRIN",
-        Instr::LeaveCritical(_) => b"CROUT",
-        Instr::Arrive(_) => b"ARRIVE",
-        Instr::Depart(_) => b"DEPART",
-        Instr::Leave => b"LEAVE",
-        Instr::Spawn { .. } => b"SPAWN",
-        Instr::TaskEnd => b"TEND",
-        Instr::WaitBegin => b"TWB",
-        Instr::WaitEnd => b"TWE",
-        Instr::Yield => b"YIELD",
-        Instr::GroupBegin => b"TGB",
-        Instr::GroupEnd => b"TGE",
-        Instr::Reduce { .. } => b"RED",
-        _ => return None,
-    };
-    Some(name)
+// The name of an instruction of this family.
+fn serial_name(serial: Serial) -> &'static [u8] {
+    match serial {
+        Serial::Constant(_) => b"CONST",
+        Serial::Duplicate => b"DUP",
+        Serial::Pop => b"POP",
+        Serial::Nop => b"NOP",
+        Serial::Unary(_) => b"UN",
+        Serial::Binary(_) => b"BIN",
+        Serial::Jump(_) => b"JMP",
+        Serial::JumpIfZero(_) => b"JZ",
+        Serial::Use => b"USE",
+        Serial::Load(_) => b"LOAD",
+        Serial::Store { .. } => b"STORE",
+        Serial::LoadElement(_) => b"LOADX",
+        Serial::StoreElement { .. } => b"STOREX",
+        Serial::Clear(_) => b"CLEAR",
+        Serial::Print { .. } => b"PRINT",
+        Serial::Atomic { .. } => b"ATOM",
+        Serial::AtomicElement { .. } => b"ATOMX",
+    }
+}
+
+// The name of an instruction of this family.
+fn function_name(function: Function) -> &'static [u8] {
+    match function {
+        Function::Call { .. } => b"CALL",
+        Function::Return => b"RET",
+        Function::ReturnNothing => b"RETN",
+        Function::Finish { .. } => b"FIN",
+    }
+}
+
+// The name of an instruction of this family.
+fn team_name(team: Team) -> &'static [u8] {
+    match team {
+        Team::ThreadNumber => b"TNUM",
+        Team::TeamSize => b"TSIZE",
+        Team::Fork { .. } => b"FORK",
+        Team::Begin => b"BEGIN",
+        Team::Arrive(_) => b"ARRIVE",
+        Team::Depart(_) => b"DEPART",
+        Team::Leave => b"LEAVE",
+    }
+}
+
+// The name of an instruction of this family.
+fn sharing_name(sharing: Sharing) -> &'static [u8] {
+    match sharing {
+        Sharing::Loop(_) => b"LOOP",
+        Sharing::Sections(_) => b"SECT",
+        Sharing::Grab(_) => b"GRAB",
+        Sharing::Iterate { .. } => b"ITER",
+        Sharing::Pick(_) => b"PICK",
+        Sharing::Single(_) => b"SINGLE",
+        Sharing::EndWorksharing => b"ENDW",
+        Sharing::Reduce { .. } => b"RED",
+    }
+}
+
+// The name of an instruction of this family.
+fn region_name(region: Region) -> &'static [u8] {
+    match region {
+        Region::Masked(_) => b"MASKED",
+        Region::EndMasked => b"ENDM",
+        Region::AskCritical(_) => b"CRACQ",
+        Region::EnterCritical(_) => b"CRIN",
+        Region::LeaveCritical(_) => b"CROUT",
+    }
+}
+
+// The name of an instruction of this family.
+fn task_name(task: Task) -> &'static [u8] {
+    match task {
+        Task::Spawn { .. } => b"SPAWN",
+        Task::TaskEnd => b"TEND",
+        Task::WaitBegin => b"TWB",
+        Task::WaitEnd => b"TWE",
+        Task::Yield => b"YIELD",
+        Task::GroupBegin => b"TGB",
+        Task::GroupEnd => b"TGE",
+    }
 }

@@ -1,11 +1,11 @@
 -- What a serial instruction touches exists.
 use Rattle.std.proofs.Common.{◌≡◌, ℕ, ℤ, pos, true, false, List, Option, Some, None, refl, ap, slice_get, is_some}
 use Rattle.std.specs.Ordering.{int_eq}
-use Rattle.om_code.specs.declared.instruction.Instr.{Instr}
 use Rattle.om_code.specs.declared.instruction.Instr.TheVariants as i
+use Rattle.om_code.specs.declared.instruction.Serial.{Serial}
+use Rattle.om_code.specs.declared.instruction.Serial.TheVariants as serials
 use Rattle.om_code.specs.declared.raw.Slot.{Slot}
 use Rattle.om_code.specs.declared.raw.Raw.{Raw}
-use Rattle.om_code.specs.declared.serial.Turn.TheVariants.{Returns, Finishes}
 use Rattle.om_code.specs.declared.frame.Operand.{Operand}
 use Rattle.om_code.specs.declared.frame.Operand.TheVariants as operand
 use Rattle.om_code.specs.Arithmetic.{operate, operate_on_one}
@@ -38,38 +38,37 @@ module _ (raw : Raw) (slots : List Slot) (s : List Operand) where
   at_index_there (Some n) row h = h n
 
   print_there : (text values : ℕ) (vs : Option (List ℤ)) → ints_on values s ≡ vs → NamesKnown raw slots
-      (i.Print text values) → IsThere raw slots s (print text values vs).touch
+      (i.Serial (serials.Print text values)) → IsThere raw slots s (print text values vs).touch
   print_there text values None e known = tt
   print_there text values (Some vs) e known = (known, ap is_some e)
 
-  pub touch_there : (instr : Instr) → NamesKnown raw slots instr → IsThere raw slots s (act raw slots instr s).touch
-  touch_there i.Duplicate known = on_operand_there (slice_get s 0) (λ x. decided (goes 0 (Some x))) (λ x. tt)
-  touch_there i.Pop known = on_operand_there (slice_get s 0) (λ x. decided (goes 1 None)) (λ x. tt)
-  touch_there (i.Unary o) known = on_int_there (int_at 0 s) (λ a. decided (gives 1 (operate_on_one o a))) (λ a. tt)
-  touch_there (i.Binary o) known = on_ints_there (int_at 1 s) (int_at 0 s)
+  pub touch_there : (instr : Serial) → NamesKnown raw slots (i.Serial instr) → IsThere raw slots s (act raw slots instr s).touch
+  touch_there serials.Duplicate known = on_operand_there (slice_get s 0) (λ x. decided (goes 0 (Some x))) (λ x. tt)
+  touch_there serials.Pop known = on_operand_there (slice_get s 0) (λ x. decided (goes 1 None)) (λ x. tt)
+  touch_there (serials.Unary o) known = on_int_there (int_at 0 s) (λ a. decided (gives 1 (operate_on_one o a))) (λ a. tt)
+  touch_there (serials.Binary o) known = on_ints_there (int_at 1 s) (int_at 0 s)
       (λ a b. decided (gives 2 (operate o a b))) (λ a b. tt)
-  touch_there (i.JumpIfZero target) known = on_int_there (int_at 0 s)
+  touch_there (serials.JumpIfZero target) known = on_int_there (int_at 0 s)
       (λ a. decided (jump_if (int_eq a (pos 0)) target)) (λ a. tt)
-  touch_there i.Use known = on_operand_there (slice_get s 0) (λ x. decided (used x)) (λ x. tt)
-  touch_there (i.Load place) known = known
-  touch_there (i.Store place keeps) known = on_int_there (int_at 0 s)
+  touch_there serials.Use known = on_operand_there (slice_get s 0) (λ x. decided (used x)) (λ x. tt)
+  touch_there (serials.Load place) known = known
+  touch_there (serials.Store place keeps) known = on_int_there (int_at 0 s)
       (λ a. writes place 0 (stored (left_by keeps) None a)) (λ a. known)
-  touch_there (i.LoadElement place) known = on_int_there (int_at 0 s)
+  touch_there (serials.LoadElement place) known = on_int_there (int_at 0 s)
       (λ n. at_index (index_in (cells_in raw slots place) n) (λ k. reads place k (loaded 1)))
       (λ n. at_index_there (index_in (cells_in raw slots place) n) (λ k. reads place k (loaded 1)) (λ k. known))
-  touch_there (i.StoreElement place keeps) known = on_ints_there (int_at 1 s) (int_at 0 s)
+  touch_there (serials.StoreElement place keeps) known = on_ints_there (int_at 1 s) (int_at 0 s)
       (λ n a. at_index (index_in (cells_in raw slots place) n) (λ k. writes place k (stored 2 (kept keeps a) a)))
       (λ n a. at_index_there (index_in (cells_in raw slots place) n)
       (λ k. writes place k (stored 2 (kept keeps a) a)) (λ k. known))
-  touch_there (i.Clear slot) known = known
-  touch_there (i.Print text values) known = print_there text values (ints_on values s) refl known
-  touch_there (i.Atomic o side place) known = on_int_there (int_at 0 s) (λ a. writes place 0 (updated 1 o side a))
+  touch_there (serials.Clear slot) known = known
+  touch_there (serials.Print text values) known = print_there text values (ints_on values s) refl known
+  touch_there (serials.Atomic o side place) known = on_int_there (int_at 0 s) (λ a. writes place 0 (updated 1 o side a))
       (λ a. known)
-  touch_there (i.AtomicElement o side place) known = on_ints_there (int_at 1 s) (int_at 0 s)
+  touch_there (serials.AtomicElement o side place) known = on_ints_there (int_at 1 s) (int_at 0 s)
       (λ n a. at_index (index_in (cells_in raw slots place) n) (λ k. writes place k (updated 2 o side a)))
       (λ n a. at_index_there (index_in (cells_in raw slots place) n) (λ k. writes place k (updated 2 o side a))
       (λ k. known))
-  touch_there i.Return known = on_int_there (int_at 0 s) (λ a. decided (Returns (operand.Int a))) (λ a. tt)
-  touch_there (i.Finish true) known = on_int_there (int_at 0 s) (λ a. decided (Finishes a)) (λ a. tt)
-  touch_there (i.Finish false) known = tt
-  touch_there _ known = tt
+  touch_there (serials.Constant value) known = tt
+  touch_there serials.Nop known = tt
+  touch_there (serials.Jump target) known = tt

@@ -5,6 +5,10 @@ use Rattle.std.specs.Prelude.{length, slice_get, option_to_list, Contains, if◌
 use Rattle.std.specs.Ordering.{int_eq}
 use Rattle.om_code.specs.declared.instruction.Instr.{Instr}
 use Rattle.om_code.specs.declared.instruction.Instr.TheVariants as i
+use Rattle.om_code.specs.declared.instruction.Serial.{Serial}
+use Rattle.om_code.specs.declared.instruction.Function.{Function}
+use Rattle.om_code.specs.declared.instruction.Function.TheVariants as calls
+use Rattle.om_code.specs.declared.instruction.Serial.TheVariants as serials
 use Rattle.om_code.specs.declared.instruction.Place.{Place}
 use Rattle.om_code.specs.declared.instruction.Place.TheVariants as place
 use Rattle.om_code.specs.declared.instruction.UnaryOperator.{UnaryOperator}
@@ -21,16 +25,29 @@ use Rattle.om_code.specs.declared.frame.Fault.{Fault}
 use Rattle.om_code.specs.declared.frame.Fault.TheVariants as fault
 use Rattle.om_code.specs.declared.frame.Operand.{Operand}
 use Rattle.om_code.specs.declared.frame.Operand.TheVariants as operand
-use Rattle.om_code.specs.declared.serial.Touch.{Touch}
-use Rattle.om_code.specs.declared.serial.Touch.TheVariants.{Nothing, Reads, Writes, Clears, Prints}
-use Rattle.om_code.specs.declared.serial.Turn.{Turn}
-use Rattle.om_code.specs.declared.serial.Turn.TheVariants.{Goes, Returns, Finishes, Faults, Lacks}
+use Rattle.om_code.specs.declared.act.Act as acts
+use Rattle.om_code.specs.declared.act.Act.TheVariants.{Turns, Loads, Stores, Updates}
+use Rattle.om_code.specs.declared.act.Act.TheVariants as acted_by
+use Rattle.om_code.specs.declared.act.Turn.{Turn}
+use Rattle.om_code.specs.declared.act.Turn.TheVariants.{Goes, Returns, Finishes, Faults, Lacks}
 use Rattle.om_code.specs.Ways.{pops, pushes, successors}
 use Rattle.om_code.specs.Validity.{IsKnownPlace, IsKnownText}
 use Rattle.om_code.specs.Arithmetic.{operate, operate_on_one, update}
 use Rattle.om_code.specs.Printing.{printed, ints_on}
 
--- what an instruction touches beside its frame, and its turn by what stands in the cell that it reads or writes
+-- what an instruction touches beside its frame's place and operands
+pub data Touch : Type 0 where
+  Nothing : Touch
+  -- the cell of a variable at this index is read; a scalar's index is 0
+  Reads : (place : Place) (index : ℕ) → Touch
+  -- the cell of a variable at this index is written, and what it held counts
+  Writes : (place : Place) (index : ℕ) → Touch
+  -- each cell of the slot of this number becomes unset
+  Clears : (slot : ℕ) → Touch
+  -- the text of this number is appended to the output, with so many values from the top
+  Prints : (text : ℕ) (values : ℕ) → Touch
+
+-- what an instruction touches, and its turn by what stands in the cell that it reads or writes
 pub record Act : Type 0 where
   pub touch : Touch
   pub turn : Cell → Turn
@@ -95,6 +112,15 @@ abbrev pub updated : ℕ → AtomicOperator → Side → ℤ → Cell → Turn
 updated takes operator side other (cell.Int old) = put takes (update operator side old other)
 updated takes operator side other cell.Unset = Faults fault.Unset
 updated takes operator side other cell.Dead = Faults fault.Dead
+
+-- what is touched, and what comes of it, where an instruction does this
+abbrev pub meaning : acts.Act → Act
+meaning (Turns t) = decided t
+meaning (Loads place index takes) = reads place index (loaded takes)
+meaning (Stores place index takes pushed value) = writes place index (stored takes pushed value)
+meaning (Updates place index takes operator side operand) = writes place index (updated takes operator side operand)
+meaning (acted_by.Clears slot) = record { touch = Clears slot; turn = λ _. goes 0 None }
+meaning (acted_by.Prints text values) = record { touch = Prints text values; turn = λ _. goes values None }
 
 -- how many cells a variable has; a scalar has one
 abbrev pub cells_in : Raw → List Slot → Place → ℕ
@@ -181,29 +207,41 @@ abbrev pub finish : Bool → List Operand → Act
 finish true s = on_int (int_at 0 s) (λ a. decided (Finishes a))
 finish false s = decided (Finishes (pos 0))
 
--- the table of the serial instructions; the others have no row here. Operands stand with the top first
-abbrev pub act : Raw → List Slot → Instr → List Operand → Act
-act raw slots (i.Constant value) s = decided (goes 0 (Some (operand.Int value)))
-act raw slots i.Duplicate s = duplicate s
-act raw slots i.Pop s = pop s
-act raw slots i.Nop s = decided (goes 0 None)
-act raw slots (i.Unary operator) s = unary operator s
-act raw slots (i.Binary operator) s = binary operator s
-act raw slots (i.Jump target) s = decided (Goes (Some target) 0 None None)
-act raw slots (i.JumpIfZero target) s = jump_if_zero target s
-act raw slots i.Use s = use_value s
-act raw slots (i.Load place) s = reads place 0 (loaded 0)
-act raw slots (i.Store place keeps) s = store place keeps s
-act raw slots (i.LoadElement place) s = load_element place (cells_in raw slots place) s
-act raw slots (i.StoreElement place keeps) s = store_element place (cells_in raw slots place) keeps s
-act raw slots (i.Clear slot) s = record { touch = Clears slot; turn = λ _. goes 0 None }
-act raw slots (i.Print text values) s = print text values (ints_on values s)
-act raw slots (i.Atomic operator side place) s = update_scalar place operator side s
-act raw slots (i.AtomicElement operator side place) s = update_element place (cells_in raw slots place) operator side s
-act raw slots i.Return s = return_value s
-act raw slots i.ReturnNothing s = decided (Returns operand.NoValue)
-act raw slots (i.Finish has_value) s = finish has_value s
-act raw slots _ s = decided Lacks
+-- the table of the serial instructions. Operands stand with the top first
+abbrev pub act : Raw → List Slot → Serial → List Operand → Act
+act raw slots (serials.Constant value) s = decided (goes 0 (Some (operand.Int value)))
+act raw slots serials.Duplicate s = duplicate s
+act raw slots serials.Pop s = pop s
+act raw slots serials.Nop s = decided (goes 0 None)
+act raw slots (serials.Unary operator) s = unary operator s
+act raw slots (serials.Binary operator) s = binary operator s
+act raw slots (serials.Jump target) s = decided (Goes (Some target) 0 None None)
+act raw slots (serials.JumpIfZero target) s = jump_if_zero target s
+act raw slots serials.Use s = use_value s
+act raw slots (serials.Load place) s = reads place 0 (loaded 0)
+act raw slots (serials.Store place keeps) s = store place keeps s
+act raw slots (serials.LoadElement place) s = load_element place (cells_in raw slots place) s
+act raw slots (serials.StoreElement place keeps) s = store_element place (cells_in raw slots place) keeps s
+act raw slots (serials.Clear slot) s = record { touch = Clears slot; turn = λ _. goes 0 None }
+act raw slots (serials.Print text values) s = print text values (ints_on values s)
+act raw slots (serials.Atomic operator side place) s = update_scalar place operator side s
+act raw slots (serials.AtomicElement operator side place) s = update_element place (cells_in raw slots place) operator side s
+
+-- of instructions of functions a frame alone ends by a return, or with the program
+abbrev pub ending : Function → List Operand → Act
+ending (calls.Call body values) s = decided Lacks
+ending calls.Return s = return_value s
+ending calls.ReturnNothing s = decided (Returns operand.NoValue)
+ending (calls.Finish has_value) s = finish has_value s
+
+-- the act of an instruction: those of the other families need more than a frame
+abbrev pub act_at : Raw → List Slot → Instr → List Operand → Act
+act_at raw slots (i.Serial x) s = act raw slots x s
+act_at raw slots (i.Function x) s = ending x s
+act_at raw slots (i.Team x) s = decided Lacks
+act_at raw slots (i.Sharing x) s = decided Lacks
+act_at raw slots (i.Region x) s = decided Lacks
+act_at raw slots (i.Task x) s = decided Lacks
 
 -- what an act touches exists: a variable, a slot, or a text whose values are on the stack
 abbrev pub IsThere : Raw → List Slot → List Operand → Touch → Type 0
@@ -288,7 +326,7 @@ acted raw f a = turned raw f a.touch (a.turn (content f a.touch))
 
 abbrev pub turn_at : Raw → Body → Frame → Option Line → FrameTurn
 turn_at raw body f None = Stuck
-turn_at raw body f (Some line) = acted raw f (act raw body.slots line.instruction f.operands)
+turn_at raw body f (Some line) = acted raw f (act_at raw body.slots line.instruction f.operands)
 
 -- one instruction of a body, on one frame alone
 abbrev pub frame_turn : Raw → Body → Frame → FrameTurn

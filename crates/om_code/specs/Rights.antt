@@ -5,12 +5,14 @@ use Rattle.std.specs.Ordering.{int_eq}
 use Rattle.std.specs.Prelude.{Contains, Result, Ok, Err, option_to_list}
 use Rattle.om_code.specs.declared.instruction.Instr.{Instr}
 use Rattle.om_code.specs.declared.instruction.Instr.TheVariants as i
+use Rattle.om_code.specs.declared.instruction.Serial.{Serial}
+use Rattle.om_code.specs.declared.instruction.Serial.TheVariants as serials
 use Rattle.om_code.specs.declared.instruction.Exits.TheVariants.{Next}
 use Rattle.om_code.specs.declared.instruction.AtomicOperator.{AtomicOperator}
 use Rattle.om_code.specs.declared.instruction.Side.{Side}
 use Rattle.om_code.specs.declared.raw.Slot.{Slot}
 use Rattle.om_code.specs.declared.raw.Raw.{Raw}
-use Rattle.om_code.specs.declared.serial.Turn.TheVariants.{Goes, Returns, Finishes}
+use Rattle.om_code.specs.declared.act.Turn.TheVariants.{Goes}
 use Rattle.om_code.specs.declared.frame.Cell.{Cell}
 use Rattle.om_code.specs.declared.frame.Cell.TheVariants as cell
 use Rattle.om_code.specs.declared.frame.Fault.{Fault}
@@ -88,11 +90,11 @@ module _ (instr : Instr) where
   at_index_right None row h = record { right = λ c. tt }
   at_index_right (Some n) row h = h n
 
-used_right : (x : Operand) → IsRight i.Use (used x)
-used_right (operand.Int v) = goes_right i.Use 0 None None (record { few = omega arith; left = refl; next = refl })
+used_right : (x : Operand) → IsRight (i.Serial serials.Use) (used x)
+used_right (operand.Int v) = goes_right (i.Serial serials.Use) 0 None None (record { few = omega arith; left = refl; next = refl })
 used_right operand.NoValue = tt
 
-jump_right : (b : Bool) (target : ℕ) → IsRight (i.JumpIfZero target) (jump_if b target)
+jump_right : (b : Bool) (target : ℕ) → IsRight (i.Serial (serials.JumpIfZero target)) (jump_if b target)
 jump_right true target = (
   omega arith,
   refl,
@@ -101,109 +103,104 @@ jump_right true target = (
 )
 jump_right false target = (omega arith, refl, λ picks at. Contains-here (at + 1) (target ∷ []))
 
-print_right : (text values : ℕ) (vs : Option (List ℤ)) → RightAct (i.Print text values) (print text values vs)
+print_right : (text values : ℕ) (vs : Option (List ℤ)) → RightAct (i.Serial (serials.Print text values)) (print text values vs)
 print_right text values None = record { right = λ c. tt }
 print_right text values (Some vs) = record {
-  right = λ c. goes_right (i.Print text values) values None None
+  right = λ c. goes_right (i.Serial (serials.Print text values)) values None None
       (record { few = omega arith; left = refl; next = refl });
 }
 
-row_right : (raw : Raw) (slots : List Slot) (instr : Instr) (s : List Operand) → RightAct instr (act raw slots instr s)
-row_right raw slots (i.Constant value) s = record {
-  right = λ c. goes_right (i.Constant value) 0
+row_right : (raw : Raw) (slots : List Slot) (instr : Serial) (s : List Operand)
+    → RightAct (i.Serial instr) (act raw slots instr s)
+row_right raw slots (serials.Constant value) s = record {
+  right = λ c. goes_right (i.Serial (serials.Constant value)) 0
       (Some (operand.Int value)) None (record { few = omega arith; left = refl; next = refl });
 }
-row_right raw slots i.Duplicate s = on_operand_right i.Duplicate (slice_get s 0) (λ x. decided (goes 0 (Some x)))
+row_right raw slots serials.Duplicate s = on_operand_right (i.Serial serials.Duplicate) (slice_get s 0) (λ x. decided (goes 0 (Some x)))
     (λ a. record {
-      right = λ c. goes_right i.Duplicate 0 (Some a) None
+      right = λ c. goes_right (i.Serial serials.Duplicate) 0 (Some a) None
           (record { few = omega arith; left = refl; next = refl });
     })
-row_right raw slots i.Pop s = on_operand_right i.Pop (slice_get s 0) (λ x. decided (goes 1 None))
-    (λ a. record { right = λ c. goes_right i.Pop 1 None None (record { few = omega arith; left = refl; next = refl }) })
-row_right raw slots i.Nop s = record {
-  right = λ c. goes_right i.Nop 0 None None
+row_right raw slots serials.Pop s = on_operand_right (i.Serial serials.Pop) (slice_get s 0) (λ x. decided (goes 1 None))
+    (λ a. record { right = λ c. goes_right (i.Serial serials.Pop) 1 None None (record { few = omega arith; left = refl; next = refl }) })
+row_right raw slots serials.Nop s = record {
+  right = λ c. goes_right (i.Serial serials.Nop) 0 None None
       (record { few = omega arith; left = refl; next = refl });
 }
-row_right raw slots (i.Unary o) s = on_int_right (i.Unary o) (int_at 0 s)
+row_right raw slots (serials.Unary o) s = on_int_right (i.Serial (serials.Unary o)) (int_at 0 s)
     (λ a. decided (gives 1 (operate_on_one o a)))
     (λ a. record {
-      right = λ c. gives_right (i.Unary o) 1 (operate_on_one o a)
+      right = λ c. gives_right (i.Serial (serials.Unary o)) 1 (operate_on_one o a)
           (record { few = omega arith; left = refl; next = refl });
     })
-row_right raw slots (i.Binary o) s = on_ints_right (i.Binary o) (int_at 1 s) (int_at 0 s)
+row_right raw slots (serials.Binary o) s = on_ints_right (i.Serial (serials.Binary o)) (int_at 1 s) (int_at 0 s)
     (λ a b. decided (gives 2 (operate o a b)))
     (λ a b. record {
-      right = λ c. gives_right (i.Binary o) 2 (operate o a b)
+      right = λ c. gives_right (i.Serial (serials.Binary o)) 2 (operate o a b)
           (record { few = omega arith; left = refl; next = refl });
     })
-row_right raw slots (i.Jump target) s = record { right = λ c. (omega arith, refl, λ picks at. Contains-here target []) }
-row_right raw slots (i.JumpIfZero target) s = on_int_right (i.JumpIfZero target) (int_at 0 s)
+row_right raw slots (serials.Jump target) s = record { right = λ c. (omega arith, refl, λ picks at. Contains-here target []) }
+row_right raw slots (serials.JumpIfZero target) s = on_int_right (i.Serial (serials.JumpIfZero target)) (int_at 0 s)
     (λ a. decided (jump_if (int_eq a (pos 0)) target))
     (λ a. record { right = λ c. jump_right (int_eq a (pos 0)) target })
-row_right raw slots i.Use s = on_operand_right i.Use (slice_get s 0) (λ x. decided (used x))
+row_right raw slots serials.Use s = on_operand_right (i.Serial serials.Use) (slice_get s 0) (λ x. decided (used x))
     (λ a. record { right = λ c. used_right a })
-row_right raw slots (i.Load place) s = record {
-  right = λ c. loaded_right (i.Load place) 0 c
+row_right raw slots (serials.Load place) s = record {
+  right = λ c. loaded_right (i.Serial (serials.Load place)) 0 c
       (record { few = omega arith; left = refl; next = refl });
 }
-row_right raw slots (i.Store place true) s = on_int_right (i.Store place true) (int_at 0 s)
+row_right raw slots (serials.Store place true) s = on_int_right (i.Serial (serials.Store place true)) (int_at 0 s)
     (λ a. writes place 0 (stored 0 None a)) (λ a. record {
-      right = λ c. stored_right (i.Store place true) 0 None a c
+      right = λ c. stored_right (i.Serial (serials.Store place true)) 0 None a c
           (record { few = omega arith; left = refl; next = refl });
     })
-row_right raw slots (i.Store place false) s = on_int_right (i.Store place false) (int_at 0 s)
+row_right raw slots (serials.Store place false) s = on_int_right (i.Serial (serials.Store place false)) (int_at 0 s)
     (λ a. writes place 0 (stored 1 None a)) (λ a. record {
-      right = λ c. stored_right (i.Store place false) 1 None a
+      right = λ c. stored_right (i.Serial (serials.Store place false)) 1 None a
           c (record { few = omega arith; left = refl; next = refl });
     })
-row_right raw slots (i.LoadElement place) s = on_int_right (i.LoadElement place) (int_at 0 s)
+row_right raw slots (serials.LoadElement place) s = on_int_right (i.Serial (serials.LoadElement place)) (int_at 0 s)
     (λ n. at_index (index_in (cells_in raw slots place) n) (λ k. reads place k (loaded 1)))
-    (λ a. at_index_right (i.LoadElement place) (index_in (cells_in raw slots place) a)
+    (λ a. at_index_right (i.Serial (serials.LoadElement place)) (index_in (cells_in raw slots place) a)
     (λ k. reads place k (loaded 1))
     (λ n. record {
-      right = λ c. loaded_right (i.LoadElement place) 1 c
+      right = λ c. loaded_right (i.Serial (serials.LoadElement place)) 1 c
           (record { few = omega arith; left = refl; next = refl });
     }))
-row_right raw slots (i.StoreElement place true) s = on_ints_right (i.StoreElement place true) (int_at 1 s)
+row_right raw slots (serials.StoreElement place true) s = on_ints_right (i.Serial (serials.StoreElement place true)) (int_at 1 s)
     (int_at 0 s) (λ n a. at_index (index_in (cells_in raw slots place) n)
-    (λ k. writes place k (stored 2 (Some (operand.Int a)) a))) (λ a b. at_index_right (i.StoreElement place true)
+    (λ k. writes place k (stored 2 (Some (operand.Int a)) a))) (λ a b. at_index_right (i.Serial (serials.StoreElement place true))
     (index_in (cells_in raw slots place) a) (λ k. writes place k (stored 2 (Some (operand.Int b)) b))
     (λ n. record {
-      right = λ c. stored_right (i.StoreElement place true) 2 (Some (operand.Int b)) b c
+      right = λ c. stored_right (i.Serial (serials.StoreElement place true)) 2 (Some (operand.Int b)) b c
           (record { few = omega arith; left = refl; next = refl });
     }))
-row_right raw slots (i.StoreElement place false) s = on_ints_right (i.StoreElement place false) (int_at 1 s)
+row_right raw slots (serials.StoreElement place false) s = on_ints_right (i.Serial (serials.StoreElement place false)) (int_at 1 s)
     (int_at 0 s) (λ n a. at_index (index_in (cells_in raw slots place) n) (λ k. writes place k (stored 2 None a)))
-    (λ a b. at_index_right (i.StoreElement place false) (index_in (cells_in raw slots place) a)
+    (λ a b. at_index_right (i.Serial (serials.StoreElement place false)) (index_in (cells_in raw slots place) a)
     (λ k. writes place k (stored 2 None b)) (λ n. record {
-      right = λ c. stored_right (i.StoreElement place false) 2
+      right = λ c. stored_right (i.Serial (serials.StoreElement place false)) 2
           None b c (record { few = omega arith; left = refl; next = refl });
     }))
-row_right raw slots (i.Clear slot) s = record {
-  right = λ c. goes_right (i.Clear slot) 0 None None
+row_right raw slots (serials.Clear slot) s = record {
+  right = λ c. goes_right (i.Serial (serials.Clear slot)) 0 None None
       (record { few = omega arith; left = refl; next = refl });
 }
-row_right raw slots (i.Print text values) s = print_right text values (ints_on values s)
-row_right raw slots (i.Atomic o side place) s = on_int_right (i.Atomic o side place) (int_at 0 s)
+row_right raw slots (serials.Print text values) s = print_right text values (ints_on values s)
+row_right raw slots (serials.Atomic o side place) s = on_int_right (i.Serial (serials.Atomic o side place)) (int_at 0 s)
     (λ a. writes place 0 (updated 1 o side a)) (λ a. record {
-      right = λ c. updated_right (i.Atomic o side place) 1 o
+      right = λ c. updated_right (i.Serial (serials.Atomic o side place)) 1 o
           side a c (record { few = omega arith; left = refl; next = refl });
     })
-row_right raw slots (i.AtomicElement o side place) s = on_ints_right (i.AtomicElement o side place) (int_at 1 s)
+row_right raw slots (serials.AtomicElement o side place) s = on_ints_right (i.Serial (serials.AtomicElement o side place)) (int_at 1 s)
     (int_at 0 s) (λ n a. at_index (index_in (cells_in raw slots place) n)
-    (λ k. writes place k (updated 2 o side a))) (λ a b. at_index_right (i.AtomicElement o side place)
+    (λ k. writes place k (updated 2 o side a))) (λ a b. at_index_right (i.Serial (serials.AtomicElement o side place))
     (index_in (cells_in raw slots place) a) (λ k. writes place k (updated 2 o side b))
     (λ n. record {
-      right = λ c. updated_right (i.AtomicElement o side place) 2 o side b c
+      right = λ c. updated_right (i.Serial (serials.AtomicElement o side place)) 2 o side b c
           (record { few = omega arith; left = refl; next = refl });
     }))
-row_right raw slots i.Return s = on_int_right i.Return (int_at 0 s) (λ a. decided (Returns (operand.Int a)))
-    (λ a. record { right = λ c. tt })
-row_right raw slots (i.Finish true) s = on_int_right (i.Finish true) (int_at 0 s) (λ a. decided (Finishes a))
-    (λ a. record { right = λ c. tt })
-row_right raw slots (i.Finish false) s = record { right = λ c. tt }
-row_right raw slots _ s = record { right = λ c. tt }
 
-pub act_right : (raw : Raw) (slots : List Slot) (instr : Instr) (s : List Operand) (c : Cell)
-    → IsRight instr ((act raw slots instr s).turn c)
+pub act_right : (raw : Raw) (slots : List Slot) (instr : Serial) (s : List Operand) (c : Cell)
+    → IsRight (i.Serial instr) ((act raw slots instr s).turn c)
 act_right raw slots instr s c = (row_right raw slots instr s).right c

@@ -3,7 +3,7 @@
 ghost use Rattle.std.specs.Prelude.{◌≡◌, ◌↔◌, ◌≤◌, ◌<◌, [], IsTrue, All, length};
 ghost use Rattle.om_code.specs.Validity.{HasTables, HasLength, IsKnown, IsGiven, NamesKnown, IsKnownPlace, IsKnownText, IsKnownBody, CanBegin, FitsOuter, HasNames, IsScopeOf, value_count};
 
-use crate::instruction::{Instr, Place};
+use crate::instruction::{Function, Instr, Place, Region, Serial, Sharing, Task, Team};
 use crate::program::NUMBERS;
 use crate::raw::{Body, GlobalVariable, Line, Names, Piece, Raw, Scope, Slot, Source};
 use om_seq::Seq;
@@ -108,30 +108,32 @@ fn names_known(raw: &Raw, slots: &[Slot], instr: Instr) -> bool
     ensures { IsTrue result ↔ NamesKnown raw.now slots.now instr }
 {
     match instr {
-        Instr::Load(place) | Instr::LoadElement(place) => is_known_place(raw, slots, place),
-        Instr::Store { place, .. } | Instr::StoreElement { place, .. } => {
-            is_known_place(raw, slots, place)
-        }
-        Instr::Atomic { place, .. } | Instr::AtomicElement { place, .. } => {
-            is_known_place(raw, slots, place)
-        }
-        Instr::Reduce { copy, place, .. } => {
+        Instr::Serial(
+            Serial::Load(place)
+            | Serial::LoadElement(place)
+            | Serial::Store { place, .. }
+            | Serial::StoreElement { place, .. }
+            | Serial::Atomic { place, .. }
+            | Serial::AtomicElement { place, .. },
+        ) => is_known_place(raw, slots, place),
+        Instr::Sharing(Sharing::Reduce { copy, place, .. }) => {
             (copy as usize) < slots.len() && is_known_place(raw, slots, place)
         }
-        Instr::Clear(slot) | Instr::Iterate { slot, .. } => (slot as usize) < slots.len(),
-        Instr::Call { body, values } => {
+        Instr::Serial(Serial::Clear(slot)) | Instr::Sharing(Sharing::Iterate { slot, .. }) => {
+            (slot as usize) < slots.len()
+        }
+        Instr::Function(Function::Call { body, values }) => {
             is_known_body(raw.bodies.as_slice(), &[], body, usize::from(values))
         }
-        Instr::Fork { body, values, .. } | Instr::Spawn { body, values } => {
-            is_known_body(raw.bodies.as_slice(), slots, body, usize::from(values))
-        }
-        Instr::Print { text, values } => {
+        Instr::Team(Team::Fork { body, values, .. }) | Instr::Task(Task::Spawn { body, values }) =>
+            { is_known_body(raw.bodies.as_slice(), slots, body, usize::from(values)) }
+        Instr::Serial(Serial::Print { text, values }) => {
             is_known_text(raw.texts.as_slice(), text, usize::from(values))
         }
-        Instr::Pick(list) => (list as usize) < raw.picks.len(),
-        Instr::AskCritical(lock) | Instr::EnterCritical(lock) | Instr::LeaveCritical(lock) => {
-            (lock as usize) < raw.locks.len()
-        }
+        Instr::Sharing(Sharing::Pick(list)) => (list as usize) < raw.picks.len(),
+        Instr::Region(
+            Region::AskCritical(lock) | Region::EnterCritical(lock) | Region::LeaveCritical(lock),
+        ) => (lock as usize) < raw.locks.len(),
         _ => true,
     }
 }

@@ -1,414 +1,265 @@
-//! The frame machine: what each serial instruction touches, and what it makes of its frame.
+//! The frame machine: what each serial instruction does, by its operands.
 
-ghost use Rattle.std.specs.Prelude.{◌≡◌, ℕ, Bool, Some, None};
+ghost use Rattle.std.specs.Prelude.{◌≡◌, Some, None};
 ghost use Rattle.om_code.specs.Printing.{ints_on};
 ghost use Rattle.om_code.specs.Validity.{NamesKnown, IsKnownPlace};
-ghost use Rattle.om_code.specs.Frames.{act, IsThere, IsRight, int_at, goes, gives, loaded, stored, put, updated, cells_in, index_in, duplicate, pop, unary, binary, jump_if_zero, use_value, store, load_element, store_element, update_scalar, update_element, print, return_value, finish};
+ghost use Rattle.om_code.specs.Frames.{act, meaning, decided, IsThere, IsRight, int_at, goes, gives, cells_in, index_in, duplicate, pop, unary, binary, jump_if_zero, use_value, store, load_element, store_element, update_scalar, update_element, print};
+ghost use Rattle.om_code.specs.declared.frame.Cell.{Cell};
+ghost use Rattle.om_code.specs.declared.instruction.Instr.TheVariants as instructions;
 
-use crate::arithmetic::{operate, operate_on_one, update};
-use crate::frame::{Cell, Fault, Operand, Operands};
-use crate::instruction::{AtomicOperator, BinaryOperator, Instr, Place, Side, UnaryOperator};
+use crate::act::{Act, Turn, goes};
+use crate::arithmetic::{operate, operate_on_one};
+use crate::frame::{Fault, Operand, Operands};
+use crate::instruction::{AtomicOperator, BinaryOperator, Place, Serial, Side, UnaryOperator};
 use crate::print::has_ints;
 use crate::raw::{Raw, Slot};
 
-/// What an instruction touches beside its frame's place and operands.
-#[derive(Clone, Copy)]
-pub enum Touch {
-    Nothing,
-    /// The cell of a variable at this index is read; a scalar's index is 0.
-    Reads { place: Place, index: u32 },
-    /// The cell of a variable at this index is written, and what it held counts.
-    Writes { place: Place, index: u32 },
-    /// Each cell of the slot of this number becomes unset.
-    Clears(u32),
-    /// The text of this number is appended to the output, with so many values from the top.
-    Prints { text: u32, values: u16 },
-}
-
-/// What an instruction makes of its frame.
-#[derive(Clone, Copy)]
-pub enum Turn {
-    /// The frame goes on.
-    Goes {
-        /// Where it jumps; `None`: it goes to the next instruction.
-        jump: Option<u32>,
-        /// How many operands are taken off the stack.
-        takes: u32,
-        /// What is pushed then.
-        pushed: Option<Operand>,
-        /// What is put into the cell that the instruction writes.
-        puts: Option<i32>,
-    },
-    /// The frame ends, with this as the value of its call.
-    Returns(Operand),
-    /// The program ends with this value.
-    Finishes(i32),
-    Faults(Fault),
-    /// An operand is missing or is no int, or the instruction has no row here.
-    Lacks,
-}
-
-/// What an instruction touches in a frame with these slots and operands.
+/// What an instruction does in a frame with these slots and operands.
 ///
-/// `Nothing` where a fault or a lack is decided by the instruction and its operands alone: `turn_of` then says which.
-pub fn touch_of(raw: &Raw, slots: &[Slot], instr: Instr, operands: &Operands<'_>) -> Touch
-    requires { NamesKnown raw.now slots.now instr }
-    ensures same { result ≡ (act raw.now slots.now instr operands.now).touch }
-    ensures there { IsThere raw.now slots.now operands.now result }
+/// A fault or a lack that the instruction and its operands alone decide touches nothing.
+pub fn act_of(raw: &Raw, slots: &[Slot], instr: Serial, operands: &Operands<'_>) -> Act
+    requires { NamesKnown raw.now slots.now (instructions.Serial instr) }
+    ensures same { meaning result ≡ act raw.now slots.now instr operands.now }
+    ensures there { IsThere raw.now slots.now operands.now (meaning result).touch }
+    ensures right { (cell : Cell) → IsRight (instructions.Serial instr) ((meaning result).turn cell) }
 {
-    touched(raw, slots, instr, operands)
-}
-
-// What the row of an instruction touches.
-fn touched(raw: &Raw, slots: &[Slot], instr: Instr, operands: &Operands<'_>) -> Touch
-    requires { NamesKnown raw.now slots.now instr }
-    ensures { result ≡ (act raw.now slots.now instr operands.now).touch }
-{
-    match instr {
-        Instr::Load(place) => Touch::Reads { place, index: 0 },
-        Instr::Store { place, .. } | Instr::Atomic { place, .. } => match int_at(operands, 0) {
-            Some(_) => Touch::Writes { place, index: 0 },
-            None => Touch::Nothing,
-        },
-        Instr::LoadElement(place) => reads(place, cells_in(raw, slots, place), operands),
-        Instr::StoreElement { place, .. } | Instr::AtomicElement { place, .. } => {
-            writes(place, cells_in(raw, slots, place), operands)
-        }
-        Instr::Clear(slot) => Touch::Clears(slot),
-        Instr::Print { text, values } => {
-            if has_ints(usize::from(values), operands) {
-                Touch::Prints { text, values }
-            } else {
-                Touch::Nothing
-            }
-        }
-        _ => Touch::Nothing,
-    }
-}
-
-// What LOADX touches, in a variable of so many cells.
-fn reads(place: Place, cells: u32, operands: &Operands<'_>) -> Touch
-    ensures { result ≡ (load_element place cells operands.now).touch }
-{
-    let Some(at) = int_at(operands, 0) else {
-        return Touch::Nothing;
-    };
-    match index_in(cells, at) {
-        Some(index) => Touch::Reads { place, index },
-        None => Touch::Nothing,
-    }
-}
-
-// What STOREX and ATOMX touch, in a variable of so many cells.
-fn writes(place: Place, cells: u32, operands: &Operands<'_>) -> Touch
-    ensures stores { (keeps : Bool) →
-        result ≡ (store_element place cells keeps operands.now).touch }
-    ensures updates { (operator : AtomicOperator) (side : Side) →
-        result ≡ (update_element place cells operator side operands.now).touch }
-{
-    let (Some(at), Some(_)) = (int_at(operands, 1), int_at(operands, 0)) else {
-        return Touch::Nothing;
-    };
-    match index_in(cells, at) {
-        Some(index) => Touch::Writes { place, index },
-        None => Touch::Nothing,
-    }
-}
-
-/// What an instruction makes of a frame with these slots and operands, where this stands in the cell that it touches.
-///
-/// Where it reads and writes no cell, any one may be given.
-pub fn turn_of(raw: &Raw, slots: &[Slot], instr: Instr, operands: &Operands<'_>, cell: Cell) -> Turn
-    requires { NamesKnown raw.now slots.now instr }
-    ensures same { result ≡ (act raw.now slots.now instr operands.now).turn cell }
-    ensures right { IsRight instr result }
-{
-    row(raw, slots, instr, operands, cell)
+    row(raw, slots, instr, operands)
 }
 
 // The rows of the serial instructions.
-fn row(raw: &Raw, slots: &[Slot], instr: Instr, operands: &Operands<'_>, cell: Cell) -> Turn
-    requires { NamesKnown raw.now slots.now instr }
-    ensures { result ≡ (act raw.now slots.now instr operands.now).turn cell }
+fn row(raw: &Raw, slots: &[Slot], instr: Serial, operands: &Operands<'_>) -> Act
+    requires { NamesKnown raw.now slots.now (instructions.Serial instr) }
+    ensures { meaning result ≡ act raw.now slots.now instr operands.now }
 {
     match instr {
-        Instr::Constant(value) => goes(0, Some(Operand::Int(value))),
-        Instr::Duplicate => duplicate(operands),
-        Instr::Pop => pop(operands),
-        Instr::Nop | Instr::Clear(_) => goes(0, None),
-        Instr::Unary(operator) => unary(operator, operands),
-        Instr::Binary(operator) => binary(operator, operands),
-        Instr::Jump(target) => jump(target, 0),
-        Instr::JumpIfZero(target) => jump_if_zero(target, operands),
-        Instr::Use => use_value(operands),
-        Instr::Load(_) => loaded(0, cell),
-        Instr::Store { keeps, .. } => store(keeps, operands, cell),
-        Instr::LoadElement(place) => load_element(cells_in(raw, slots, place), operands, cell),
-        Instr::StoreElement { place, keeps } => {
-            store_element(cells_in(raw, slots, place), keeps, operands, cell)
+        Serial::Constant(value) => going(0, Some(Operand::Int(value))),
+        Serial::Duplicate => duplicate(operands),
+        Serial::Pop => pop(operands),
+        Serial::Nop => going(0, None),
+        Serial::Unary(operator) => unary(operator, operands),
+        Serial::Binary(operator) => binary(operator, operands),
+        Serial::Jump(target) => jump(target, 0),
+        Serial::JumpIfZero(target) => jump_if_zero(target, operands),
+        Serial::Use => use_value(operands),
+        Serial::Load(place) => Act::Loads {
+            place,
+            index: 0,
+            takes: 0,
+        },
+        Serial::Store { place, keeps } => store(place, keeps, operands),
+        Serial::LoadElement(place) => load_element(place, cells_in(raw, slots, place), operands),
+        Serial::StoreElement { place, keeps } => {
+            store_element(place, cells_in(raw, slots, place), keeps, operands)
         }
-        Instr::Print { values, .. } => print(values, operands),
-        Instr::Atomic { operator, side, .. } => update_scalar(operator, side, operands, cell),
-        Instr::AtomicElement {
+        Serial::Clear(slot) => Act::Clears(slot),
+        Serial::Print { text, values } => print(text, values, operands),
+        Serial::Atomic {
             operator,
             side,
             place,
-        } => update_element(cells_in(raw, slots, place), operator, side, operands, cell),
-        Instr::Return => return_value(operands),
-        Instr::ReturnNothing => Turn::Returns(Operand::NoValue),
-        Instr::Finish { has_value } => finish(has_value, operands),
-        _ => Turn::Lacks,
+        } => update_scalar(place, operator, side, operands),
+        Serial::AtomicElement {
+            operator,
+            side,
+            place,
+        } => update_element(place, cells_in(raw, slots, place), operator, side, operands),
     }
 }
 
 // To the next instruction, with so many operands taken and then one pushed.
-fn goes(takes: u32, pushed: Option<Operand>) -> Turn
-    ensures { result ≡ goes takes pushed }
+fn going(takes: u32, pushed: Option<Operand>) -> Act
+    ensures { meaning result ≡ decided (goes takes pushed) }
 {
-    Turn::Goes {
-        jump: None,
-        takes,
-        pushed,
-        puts: None,
-    }
+    Act::Turns(goes(takes, pushed))
 }
 
 // To the target, with so many operands taken.
-fn jump(target: u32, takes: u32) -> Turn
-    ensures { result ≡ Turn.Goes (Some target) takes None None }
+fn jump(target: u32, takes: u32) -> Act
+    ensures { meaning result ≡ decided (Turn.Goes (Some target) takes None None) }
 {
-    Turn::Goes {
+    Act::Turns(Turn::Goes {
         jump: Some(target),
         takes,
         pushed: None,
         puts: None,
-    }
+    })
 }
 
 // DUP: the top operand is pushed once more.
-fn duplicate(operands: &Operands<'_>) -> Turn
-    ensures { (cell : Cell) → result ≡ (duplicate operands.now).turn cell }
+fn duplicate(operands: &Operands<'_>) -> Act
+    ensures { meaning result ≡ duplicate operands.now }
 {
     match operands.top() {
-        Some(top) => goes(0, Some(*top)),
-        None => Turn::Lacks,
+        Some(top) => going(0, Some(*top)),
+        None => Act::Turns(Turn::Lacks),
     }
 }
 
 // POP: the top operand is taken.
-fn pop(operands: &Operands<'_>) -> Turn
-    ensures { (cell : Cell) → result ≡ (pop operands.now).turn cell }
+fn pop(operands: &Operands<'_>) -> Act
+    ensures { meaning result ≡ pop operands.now }
 {
     match operands.top() {
-        Some(_) => goes(1, None),
-        None => Turn::Lacks,
+        Some(_) => going(1, None),
+        None => Act::Turns(Turn::Lacks),
     }
 }
 
 // UN: an operator on the top operand.
-fn unary(operator: UnaryOperator, operands: &Operands<'_>) -> Turn
-    ensures { (cell : Cell) → result ≡ (unary operator operands.now).turn cell }
+fn unary(operator: UnaryOperator, operands: &Operands<'_>) -> Act
+    ensures { meaning result ≡ unary operator operands.now }
 {
     match int_at(operands, 0) {
         Some(a) => gives(1, operate_on_one(operator, a)),
-        None => Turn::Lacks,
+        None => Act::Turns(Turn::Lacks),
     }
 }
 
 // BIN: an operator on the two operands on top.
-fn binary(operator: BinaryOperator, operands: &Operands<'_>) -> Turn
-    ensures { (cell : Cell) → result ≡ (binary operator operands.now).turn cell }
+fn binary(operator: BinaryOperator, operands: &Operands<'_>) -> Act
+    ensures { meaning result ≡ binary operator operands.now }
 {
     match (int_at(operands, 1), int_at(operands, 0)) {
         (Some(a), Some(b)) => gives(2, operate(operator, a, b)),
-        _ => Turn::Lacks,
+        _ => Act::Turns(Turn::Lacks),
     }
 }
 
 // The operator's value is pushed, or its fault is met.
-fn gives(takes: u32, value: Result<i32, Fault>) -> Turn
-    ensures { result ≡ gives takes value }
+fn gives(takes: u32, value: Result<i32, Fault>) -> Act
+    ensures { meaning result ≡ decided (gives takes value) }
 {
     match value {
-        Ok(value) => goes(takes, Some(Operand::Int(value))),
-        Err(fault) => Turn::Faults(fault),
+        Ok(value) => going(takes, Some(Operand::Int(value))),
+        Err(fault) => Act::Turns(Turn::Faults(fault)),
     }
 }
 
 // JZ: jumps where the top operand is 0.
-fn jump_if_zero(target: u32, operands: &Operands<'_>) -> Turn
-    ensures { (cell : Cell) → result ≡ (jump_if_zero target operands.now).turn cell }
+fn jump_if_zero(target: u32, operands: &Operands<'_>) -> Act
+    ensures { meaning result ≡ jump_if_zero target operands.now }
 {
     match int_at(operands, 0) {
         Some(0) => jump(target, 1),
-        Some(_) => goes(1, None),
-        None => Turn::Lacks,
+        Some(_) => going(1, None),
+        None => Act::Turns(Turn::Lacks),
     }
 }
 
 // USE: the value of a function that returned none is a fault.
-fn use_value(operands: &Operands<'_>) -> Turn
-    ensures { (cell : Cell) → result ≡ (use_value operands.now).turn cell }
+fn use_value(operands: &Operands<'_>) -> Act
+    ensures { meaning result ≡ use_value operands.now }
 {
     match operands.top() {
-        Some(Operand::Int(_)) => goes(0, None),
-        Some(Operand::NoValue) => Turn::Faults(Fault::NoValue),
-        None => Turn::Lacks,
-    }
-}
-
-// What comes of the cell that is read.
-fn loaded(takes: u32, cell: Cell) -> Turn
-    ensures { result ≡ loaded takes cell }
-{
-    match cell {
-        Cell::Int(value) => goes(takes, Some(Operand::Int(value))),
-        Cell::Unset => Turn::Faults(Fault::Unset),
-        Cell::Dead => Turn::Faults(Fault::Dead),
-    }
-}
-
-// What comes of the cell that a value is put into.
-fn stored(takes: u32, pushed: Option<Operand>, value: i32, cell: Cell) -> Turn
-    ensures { result ≡ stored takes pushed value cell }
-{
-    match cell {
-        Cell::Dead => Turn::Faults(Fault::Dead),
-        Cell::Unset | Cell::Int(_) => Turn::Goes {
-            jump: None,
-            takes,
-            pushed,
-            puts: Some(value),
-        },
+        Some(Operand::Int(_)) => going(0, None),
+        Some(Operand::NoValue) => Act::Turns(Turn::Faults(Fault::NoValue)),
+        None => Act::Turns(Turn::Lacks),
     }
 }
 
 // STORE: puts the top operand, and takes it unless it is kept.
-fn store(keeps: bool, operands: &Operands<'_>, cell: Cell) -> Turn
-    ensures { (place : Place) → result ≡ (store place keeps operands.now).turn cell }
+fn store(place: Place, keeps: bool, operands: &Operands<'_>) -> Act
+    ensures { meaning result ≡ store place keeps operands.now }
 {
     match int_at(operands, 0) {
-        Some(value) => stored(if keeps { 0 } else { 1 }, None, value, cell),
-        None => Turn::Lacks,
+        Some(value) => Act::Stores {
+            place,
+            index: 0,
+            takes: if keeps { 0 } else { 1 },
+            pushed: None,
+            value,
+        },
+        None => Act::Turns(Turn::Lacks),
     }
 }
 
 // LOADX, from a variable of so many cells.
-fn load_element(cells: u32, operands: &Operands<'_>, cell: Cell) -> Turn
-    ensures { (place : Place) → result ≡ (load_element place cells operands.now).turn cell }
+fn load_element(place: Place, cells: u32, operands: &Operands<'_>) -> Act
+    ensures { meaning result ≡ load_element place cells operands.now }
 {
     let Some(at) = int_at(operands, 0) else {
-        return Turn::Lacks;
+        return Act::Turns(Turn::Lacks);
     };
     match index_in(cells, at) {
-        Some(_) => loaded(1, cell),
-        None => Turn::Faults(Fault::Index),
+        Some(index) => Act::Loads {
+            place,
+            index,
+            takes: 1,
+        },
+        None => Act::Turns(Turn::Faults(Fault::Index)),
     }
 }
 
 // STOREX, to a variable of so many cells.
-fn store_element(cells: u32, keeps: bool, operands: &Operands<'_>, cell: Cell) -> Turn
-    ensures { (place : Place) → result ≡ (store_element place cells keeps operands.now).turn cell }
+fn store_element(place: Place, cells: u32, keeps: bool, operands: &Operands<'_>) -> Act
+    ensures { meaning result ≡ store_element place cells keeps operands.now }
 {
     let (Some(at), Some(value)) = (int_at(operands, 1), int_at(operands, 0)) else {
-        return Turn::Lacks;
+        return Act::Turns(Turn::Lacks);
     };
-    let pushed = keeps.then_some(Operand::Int(value));
     match index_in(cells, at) {
-        Some(_) => stored(2, pushed, value, cell),
-        None => Turn::Faults(Fault::Index),
+        Some(index) => Act::Stores {
+            place,
+            index,
+            takes: 2,
+            pushed: keeps.then_some(Operand::Int(value)),
+            value,
+        },
+        None => Act::Turns(Turn::Faults(Fault::Index)),
     }
 }
 
 // PRINT: takes its values.
-fn print(values: u16, operands: &Operands<'_>) -> Turn
-    ensures { (text : ℕ) (cell : Cell) →
-        result ≡ (print text values (ints_on values operands.now)).turn cell }
+fn print(text: u32, values: u16, operands: &Operands<'_>) -> Act
+    ensures { meaning result ≡ print text values (ints_on values operands.now) }
 {
     if has_ints(usize::from(values), operands) {
-        goes(u32::from(values), None)
+        Act::Prints { text, values }
     } else {
-        Turn::Lacks
+        Act::Turns(Turn::Lacks)
     }
 }
 
 // ATOM: puts the operator's value, of the old value and the top operand.
-fn update_scalar(operator: AtomicOperator, side: Side, operands: &Operands<'_>, cell: Cell) -> Turn
-    ensures { (place : Place) → result
-        ≡ (update_scalar place operator side operands.now).turn cell }
+fn update_scalar(place: Place, operator: AtomicOperator, side: Side, operands: &Operands<'_>) -> Act
+    ensures { meaning result ≡ update_scalar place operator side operands.now }
 {
     match int_at(operands, 0) {
-        Some(other) => updated(1, operator, side, other, cell),
-        None => Turn::Lacks,
+        Some(operand) => Act::Updates {
+            place,
+            index: 0,
+            takes: 1,
+            operator,
+            side,
+            operand,
+        },
+        None => Act::Turns(Turn::Lacks),
     }
 }
 
 // ATOMX, on a variable of so many cells.
 fn update_element(
+    place: Place,
     cells: u32,
     operator: AtomicOperator,
     side: Side,
     operands: &Operands<'_>,
-    cell: Cell,
-) -> Turn
-    ensures { (place : Place) → result
-        ≡ (update_element place cells operator side operands.now).turn cell }
+) -> Act
+    ensures { meaning result ≡ update_element place cells operator side operands.now }
 {
-    let (Some(at), Some(other)) = (int_at(operands, 1), int_at(operands, 0)) else {
-        return Turn::Lacks;
+    let (Some(at), Some(operand)) = (int_at(operands, 1), int_at(operands, 0)) else {
+        return Act::Turns(Turn::Lacks);
     };
     match index_in(cells, at) {
-        Some(_) => updated(2, operator, side, other, cell),
-        None => Turn::Faults(Fault::Index),
-    }
-}
-
-// What comes of the cell that is updated.
-fn updated(takes: u32, operator: AtomicOperator, side: Side, other: i32, cell: Cell) -> Turn
-    ensures { result ≡ updated takes operator side other cell }
-{
-    match cell {
-        Cell::Int(old) => put(takes, update(operator, side, old, other)),
-        Cell::Unset => Turn::Faults(Fault::Unset),
-        Cell::Dead => Turn::Faults(Fault::Dead),
-    }
-}
-
-// The operator's value is put, or its fault is met.
-fn put(takes: u32, value: Result<i32, Fault>) -> Turn
-    ensures { result ≡ put takes value }
-{
-    match value {
-        Ok(value) => Turn::Goes {
-            jump: None,
-            takes,
-            pushed: None,
-            puts: Some(value),
+        Some(index) => Act::Updates {
+            place,
+            index,
+            takes: 2,
+            operator,
+            side,
+            operand,
         },
-        Err(fault) => Turn::Faults(fault),
-    }
-}
-
-// RET: the frame ends with the top operand.
-fn return_value(operands: &Operands<'_>) -> Turn
-    ensures { (cell : Cell) → result ≡ (return_value operands.now).turn cell }
-{
-    match int_at(operands, 0) {
-        Some(value) => Turn::Returns(Operand::Int(value)),
-        None => Turn::Lacks,
-    }
-}
-
-// FIN: the program ends with the top operand, or with 0.
-fn finish(has_value: bool, operands: &Operands<'_>) -> Turn
-    ensures { (cell : Cell) → result ≡ (finish has_value operands.now).turn cell }
-{
-    if !has_value {
-        return Turn::Finishes(0);
-    }
-    match int_at(operands, 0) {
-        Some(value) => Turn::Finishes(value),
-        None => Turn::Lacks,
+        None => Act::Turns(Turn::Faults(Fault::Index)),
     }
 }
 

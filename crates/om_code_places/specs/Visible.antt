@@ -9,6 +9,8 @@ use Rattle.std.specs.Prelude.{position, slice_get, if◌then◌else◌}
 use Rattle.std.specs.Str.{bytes_eq}
 use Rattle.om_code.specs.declared.instruction.Instr.{Instr}
 use Rattle.om_code.specs.declared.instruction.Instr.TheVariants as i
+use Rattle.om_code.specs.declared.instruction.Team.TheVariants as teams
+use Rattle.om_code.specs.declared.instruction.Task.TheVariants as taskings
 use Rattle.om_code.specs.declared.raw.Body.{Body}
 use Rattle.om_code.specs.declared.raw.GlobalVariable.{GlobalVariable}
 use Rattle.om_code.specs.declared.raw.Line.{Line}
@@ -47,8 +49,8 @@ slot_var length (Some slot) = Some (var.Slot slot length)
 -- ---- in the body round a region
 
 abbrev pub starts_body : ℕ → Instr → Bool
-starts_body number (i.Fork body sized values) = nat_eq body number
-starts_body number (i.Spawn body values) = nat_eq body number
+starts_body number (i.Team (teams.Fork body sized values)) = nat_eq body number
+starts_body number (i.Task (taskings.Spawn body values)) = nat_eq body number
 starts_body number _ = false
 
 -- FORK and SPAWN of a body

@@ -6,7 +6,7 @@ ghost use Rattle.om_code.specs.Places.{line_at};
 ghost use Rattle.om_code_places.specs.Visible.{around_below, as_inner, global_named, global_var, holds, innermost, is_slot, meant, slot_var, start_in, starts, starts_body, variable_at};
 
 use om_code::raw::{GlobalVariable, Line, Scope};
-use om_code::{Body, Instr, Program};
+use om_code::{Body, Instr, Program, Task, Team};
 
 /// A variable that a name means.
 #[derive(Clone, Copy, PartialEq, Eq)]
@@ -170,7 +170,7 @@ fn index_of_start(code: &[Line], number: u32) -> Option<usize>
 fn starts_body(number: u32, instruction: Instr) -> bool
     ensures { result ≡ starts_body number instruction }
 {
-    matches!(instruction, Instr::Fork { body, .. } | Instr::Spawn { body, .. } if body == number)
+    matches!(instruction, Instr::Team(Team::Fork { body, .. }) | Instr::Task(Task::Spawn { body, .. }) if body == number)
 }
 
 // A variable of the body round a body, as this body has it.

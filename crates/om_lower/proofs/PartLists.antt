@@ -3,6 +3,7 @@ use Rattle.std.proofs.Common.{◌≡◌, refl, ℕ, suc, ◌+◌, ◌<◌, ◌�
 use Rattle.std.proofs.Common.{add-one, length, sym, ap, ◌∙◌, subst, arith}
 use Rattle.std.specs.Prelude.{slice_get}
 use Rattle.om_code.specs.declared.instruction.Instr.TheVariants as i
+use Rattle.om_code.specs.declared.instruction.Serial.TheVariants as serials
 use Rattle.om_lower_emit.specs.Drafts.{Labels, Written, Defines, Puts}
 use Rattle.om_lower_emit.specs.Emits.{Finished, Goes, site}
 use Rattle.om_lower_emit.specs.Writing.{free_define, goes_end, goes_put}
@@ -36,13 +37,13 @@ no_jumps = record { over = None; next = None }
 part_then : (names : Numbered) (n : Numbers) (spot : PartsSpot) (items : ResolvedStatementsTree)
     (rest : ResolvedPartsTree) (k label : ℕ) (a b c d e : Written)
     → k ≤ label → slice_get a.places label ≡ Some None → Defines label a b → EmitsStatements names n items no_jumps
-    b c → Puts spot.line (i.Jump spot.again) c d
+    b c → Puts spot.line (i.Serial (serials.Jump spot.again)) c d
     → GoesParts k names (behind_all n items) rest spot (label + 1) d e
     → GoesParts k names n (Part items rest) spot label a e
 part_then names n spot items rest k label a b c d e le free h1 h2 h3 h4 =
     with_as k (parts_own_picks n (Part items rest)) (λ done at. part (here (at label) end)
     (part (statements (site names done) n items nowhere)
-    (part (ins (site names done) spot.line (i.Jump (at spot.again)) end) (behind done at)))) _ a e
+    (part (ins (site names done) spot.line (i.Serial (serials.Jump (at spot.again))) end) (behind done at)))) _ a e
     (λ done at p q r.
     let y = r.2.2 in (
       r.1.0,
@@ -56,7 +57,7 @@ part_then names n spot items rest k label a b c d e le free h1 h2 h3 h4 =
     (then_with k (length b.places) k (all_own_picks n items) (parts_own_picks (behind_all n items) rest) _ _ b c e
     (omega (arith, free_within label a free, le, placed.keeps.more)) (omega arith) h2
     (before_with k k k (parts_own_picks (behind_all n items) rest) _ behind c d e (omega arith) (omega arith)
-    (goes_put names k spot.line (i.Jump spot.again) (λ done at. end) c d d h3 (goes_end k d)) h4)))
+    (goes_put names k spot.line (i.Serial (serials.Jump spot.again)) (λ done at. end) c d d h3 (goes_end k d)) h4)))
   where
     behind : Finished → Labels → ℕ → ℕ → Type 0
     behind done at = parts (site names done) (behind_all n items) spot.line (at spot.again) rest
@@ -82,7 +83,7 @@ onward_parts_next : (names : Numbered) (spot : PartsSpot) (first now after : Num
     (items : ResolvedStatementsTree) (label next : ℕ) (begun a b c d : Written)
     → after ≡ behind_all now items → next ≡ label + 1 → spot.first ≤ label → slice_get a.places label ≡ Some None
     → OnwardParts names spot first now all (Part items rest) label begun a
-    → Defines label a b → EmitsStatements names now items no_jumps b c → Puts spot.line (i.Jump spot.again) c d
+    → Defines label a b → EmitsStatements names now items no_jumps b c → Puts spot.line (i.Serial (serials.Jump spot.again)) c d
     → OnwardParts names spot first after all rest next begun d
 unfolding OnwardParts
 onward_parts_next names spot first now after all rest items label next begun a b c d is one le free g h1 h2 h3 e h4 =
@@ -130,7 +131,7 @@ free_first first left label d is some free =
 free_next : (names : Numbered) (n : Numbers) (items : ResolvedStatementsTree) (spot : PartsSpot)
     (first left label next : ℕ) (a b c d : Written)
     → label ≡ first → next ≡ first + 1 → AreFree first (suc left) a
-    → Defines label a b → EmitsStatements names n items no_jumps b c → Puts spot.line (i.Jump spot.again) c d
+    → Defines label a b → EmitsStatements names n items no_jumps b c → Puts spot.line (i.Serial (serials.Jump spot.again)) c d
     → AreFree next left d
 free_next names n items spot first left label next a b c d is one free h1 h2 h3 k lt =
     let same : next + k ≡ first + suc k = omega (arith, one) in
@@ -146,7 +147,7 @@ pub parts_next : (names : Numbered) (spot : PartsSpot) (first now after : Number
     (items : ResolvedStatementsTree)
     → (label next count : ℕ) (begun a b c d : Written)
     → left ≡ Part items rest → after ≡ behind_all now items → next ≡ label + 1 → spot.first ≤ label → Defines label a b
-    → EmitsStatements names now items no_jumps b c → Puts spot.line (i.Jump spot.again) c d
+    → EmitsStatements names now items no_jumps b c → Puts spot.line (i.Serial (serials.Jump spot.again)) c d
     → PartsHaveCode left → behind_parts now left ≡ behind_parts first all → AreFree label (suc count) a
     → OnwardParts names spot first now all left label begun a
     → PartsHaveCode rest × (behind_parts after rest ≡ behind_parts first all) × AreFree next count d

@@ -4,6 +4,7 @@ use Rattle.std.proofs.Common.{refl, sym, ap, ◌∙◌, subst, arith}
 use Rattle.std.specs.Prelude.{slice_get}
 use Rattle.std.proofs.lemmas.List.{length-map}
 use Rattle.om_code.specs.declared.instruction.Instr.TheVariants as i
+use Rattle.om_code.specs.declared.instruction.Sharing.TheVariants as sharings
 use Rattle.om_lower_emit.specs.Drafts.{Labels, Written, Defines, labels_from}
 use Rattle.om_lower_emit.specs.Emits.{Finished, Goes, site, Emits}
 use Rattle.om_lexer.specs.declared.token.Span.{Span}
@@ -56,7 +57,7 @@ emits_sections names n first clauses nowait all jumps count spot a b c d e label
         b.0,
         b.1,
         (
-          subst (λ z. slice_get done.code b.0 ≡ Some (record { instruction = i.Sections z; line = first.line }))
+          subst (λ z. slice_get done.code b.0 ≡ Some (record { instruction = i.Sharing (sharings.Sections z); line = first.line }))
               (sym (counted at)) b.2.0,
           (
             b.2.1.0,

@@ -4,6 +4,9 @@ use Rattle.om_lower.specs.Emitted.{EmitsBody, EmitsRegion}
 use Rattle.om_code.specs.declared.instruction.Barrier.TheVariants as barriers
 use Rattle.om_code.specs.declared.instruction.Instr.{Instr}
 use Rattle.om_code.specs.declared.instruction.Instr.TheVariants as i
+use Rattle.om_code.specs.declared.instruction.Function.TheVariants as calls
+use Rattle.om_code.specs.declared.instruction.Team.TheVariants as teams
+use Rattle.om_code.specs.declared.instruction.Task.TheVariants as taskings
 use Rattle.om_lower_emit.specs.Drafts.{Labels, Puts, Written}
 use Rattle.om_lower_emit.specs.Emits.{Emits, EmitsRow, Finished, Goes, Part, site}
 use Rattle.om_lower_emit.specs.Writing.{goes_end, goes_put}
@@ -42,17 +45,17 @@ part_then : (xs : List ℕ) (r s : Part) (a b c : Written) → EmitsWith xs r a 
     → EmitsWith xs (λ done at. part (r done at) (s done at)) a c
 part_then xs r s a b c e g = with_behind _ _ _ xs r s a b c (omega arith) e.more e g
 
-last_two : (names : Numbered) (l : ℕ) (a b c : Written) → Puts l (i.Arrive barriers.Parallel) a b
-    → Puts l i.Leave b c
-    → EmitsRow names (λ at. ins at l (i.Arrive barriers.Parallel) (ins at l i.Leave end)) a c
+last_two : (names : Numbered) (l : ℕ) (a b c : Written) → Puts l (i.Team (teams.Arrive barriers.Parallel)) a b
+    → Puts l (i.Team teams.Leave) b c
+    → EmitsRow names (λ at. ins at l (i.Team (teams.Arrive barriers.Parallel)) (ins at l (i.Team teams.Leave) end)) a c
 last_two names l a b c arrive leave =
-    goes_put names _ l (i.Arrive barriers.Parallel) (λ done at. ins (site names done) l i.Leave end) a b c arrive
-    (goes_put names _ l i.Leave (λ done at. end) b c c leave (goes_end _ c))
+    goes_put names _ l (i.Team (teams.Arrive barriers.Parallel)) (λ done at. ins (site names done) l (i.Team teams.Leave) end) a b c arrive
+    (goes_put names _ l (i.Team teams.Leave) (λ done at. end) b c c leave (goes_end _ c))
 
 last_one : (names : Numbered) (l : ℕ) (main : Bool) (a b : Written) → Puts l (last_instruction main false) a b
     → EmitsRow names (λ at. ins at l (last_instruction main false) end) a b
-last_one names l true a b put = goes_put names _ l (i.Finish false) (λ done at. end) a b b put (goes_end _ b)
-last_one names l false a b put = goes_put names _ l i.ReturnNothing (λ done at. end) a b b put (goes_end _ b)
+last_one names l true a b put = goes_put names _ l (i.Function (calls.Finish false)) (λ done at. end) a b b put (goes_end _ b)
+last_one names l false a b put = goes_put names _ l (i.Function calls.ReturnNothing) (λ done at. end) a b b put (goes_end _ b)
 
 -- ---- bodies
 
@@ -72,25 +75,25 @@ function_emits names f numbers spot items last a b c outside all ends emitted pu
 pub task_emits : (names : Numbered) (numbers : tables.Numbers) (spot : Spot) (first : Span)
     (clauses : List ResolvedClauseTree) (captures : List Capture) (s : ResolvedStatementTree)
     (a b c : Written) → IsOutside numbers spot
-    → EmitsStatement names (numbers_of spot.numbers) s spot.jumps a b → Puts first.line i.TaskEnd b c
+    → EmitsStatement names (numbers_of spot.numbers) s spot.jumps a b → Puts first.line (i.Task taskings.TaskEnd) b c
     → EmitsRegion names (numbers_of numbers) (RegionBody first kinds.Task clauses captures s) a c
 task_emits names numbers spot first clauses captures s a b c outside emitted put f =
     part_then _ (λ done at. statement (site names done) (numbers_of numbers) s nowhere)
-    (λ done at. ins (site names done) first.line i.TaskEnd end) a b c
+    (λ done at. ins (site names done) first.line (i.Task taskings.TaskEnd) end) a b c
     (subst (λ x. EmitsStatement names (numbers_of x.numbers) s x.jumps a b) outside emitted)
-    (goes_put names _ first.line i.TaskEnd (λ done at. end) b c c put (goes_end _ c))
+    (goes_put names _ first.line (i.Task taskings.TaskEnd) (λ done at. end) b c c put (goes_end _ c))
 
 pub parallel_emits : (names : Numbered) (numbers : tables.Numbers) (spot : Spot) (first : Span)
     (clauses : List ResolvedClauseTree) (captures : List Capture) (s : ResolvedStatementTree)
-    (a b c d e g h : Written) → IsOutside numbers spot → Puts first.line i.Begin a b
+    (a b c d e g h : Written) → IsOutside numbers spot → Puts first.line (i.Team teams.Begin) a b
     → EmitsRow names (λ at. reduction_starts at first.line clauses) b c
     → EmitsStatement names (numbers_of spot.numbers) s spot.jumps c d
     → EmitsRow names (λ at. reductions at first.line clauses) d e
-    → Puts first.line (i.Arrive barriers.Parallel) e g → Puts first.line i.Leave g h
+    → Puts first.line (i.Team (teams.Arrive barriers.Parallel)) e g → Puts first.line (i.Team teams.Leave) g h
     → EmitsRegion names (numbers_of numbers) (RegionBody first kinds.Parallel clauses captures s) a h
 parallel_emits names numbers spot first clauses captures s a b c d e g h outside begin starts emitted combined
     arrive leave f =
-    with_as k _ (λ done at. part (ins (site names done) first.line i.Begin end) (begun done at)) _ a h
+    with_as k _ (λ done at. part (ins (site names done) first.line (i.Team teams.Begin) end) (begun done at)) _ a h
     (λ done at p q r. (r.1.0, subst (λ m. begun done at m q) (sym r.1.1) r.2))
     (before_with k k k _ _ begun a b h (omega arith) (omega arith) first_put
     (before_with k _ k _ (λ done at. reduction_starts (site names done) first.line clauses) _ b c h
@@ -109,11 +112,11 @@ parallel_emits names numbers spot first clauses captures s a b c d e g h outside
         part (reduction_starts (site names done) first.line clauses)
         (part (statement (site names done) (numbers_of numbers) s nowhere)
         (part (reductions (site names done) first.line clauses)
-        (ins (site names done) first.line (i.Arrive barriers.Parallel)
-        (ins (site names done) first.line i.Leave end))))
+        (ins (site names done) first.line (i.Team (teams.Arrive barriers.Parallel))
+        (ins (site names done) first.line (i.Team teams.Leave) end))))
 
-    first_put : Goes k (λ done at. ins (site names done) first.line i.Begin end) a b
-    first_put = goes_put names k first.line i.Begin (λ done at. end) a b b begin (goes_end k b)
+    first_put : Goes k (λ done at. ins (site names done) first.line (i.Team teams.Begin) end) a b
+    first_put = goes_put names k first.line (i.Team teams.Begin) (λ done at. end) a b b begin (goes_end k b)
 
     inside : EmitsStatement names (numbers_of numbers) s no_jumps c d
     inside = subst (λ x. EmitsStatement names (numbers_of x.numbers) s x.jumps c d) outside emitted

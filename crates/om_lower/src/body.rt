@@ -11,9 +11,9 @@ ghost use Rattle.om_scope_tree.specs.ResolvedView as view;
 
 use crate::functions::INSTRUCTION_LIMIT;
 use crate::statement::{inner, statements};
-use om_code::Instr;
 use om_code::instruction::Barrier;
 use om_code::raw::Line;
+use om_code::{Instr, Task, Team};
 use om_lower_emit::Here;
 use om_lower_emit::clause::{reduction_starts, reductions, task_copies};
 use om_lower_emit::declaration::{begin_parameters, last_instruction};
@@ -134,13 +134,15 @@ fn write_parallel(
     let here = Here { tables, at };
     let line = at.line;
     let height = writing.scopes.height();
-    writing.draft.put(line, Instr::Begin)?;
+    writing.draft.put(line, Instr::Team(Team::Begin))?;
     reduction_starts(writing, &here, region.clauses)?;
     let spot = Spot::outside(numbers);
     inner(alloc, writing, tables, spot, region.statement)?;
     reductions(&mut writing.draft, &here, region.clauses)?;
-    writing.draft.put(line, Instr::Arrive(Barrier::Parallel))?;
-    writing.draft.put(line, Instr::Leave)?;
+    writing
+        .draft
+        .put(line, Instr::Team(Team::Arrive(Barrier::Parallel)))?;
+    writing.draft.put(line, Instr::Team(Team::Leave))?;
     let to = writing.draft.place();
     writing.scopes.end(height, to)
 }
@@ -163,7 +165,9 @@ fn write_task(
     task_copies(&mut writing.scopes, region.clauses)?;
     let spot = Spot::outside(numbers);
     inner(alloc, writing, tables, spot, region.statement)?;
-    writing.draft.put(region.at.line, Instr::TaskEnd)?;
+    writing
+        .draft
+        .put(region.at.line, Instr::Task(Task::TaskEnd))?;
     let to = writing.draft.place();
     writing.scopes.end(height, to)
 }

@@ -6,7 +6,7 @@ ghost use Rattle.om_lower.specs.Regions.{RegionHasCode, given_to, parallel_of, r
 ghost use Rattle.om_lower.specs.Regions.{task_of};
 ghost use Rattle.om_lower.specs.Words.{GivesBehind, ValueHasCode, value_in};
 
-use om_code::Instr;
+use om_code::{Instr, Serial, Task, Team};
 use om_lower_emit::clause::clause_value;
 use om_lower_emit::draft::Draft;
 use om_lower_emit::{Here, value};
@@ -57,11 +57,11 @@ fn parallel(
     let body = numbers.bodies;
     draft.put(
         at.line,
-        Instr::Fork {
+        Instr::Team(Team::Fork {
             body,
             sized,
             values,
-        },
+        }),
     )?;
     Ok(tables.behind_region(numbers.bodies))
 }
@@ -83,7 +83,7 @@ fn task(
     // At most 256: one for a slot.
     let values = count as u16;
     let body = numbers.bodies;
-    draft.put(region.at.line, Instr::Spawn { body, values })?;
+    draft.put(region.at.line, Instr::Task(Task::Spawn { body, values }))?;
     Ok(tables.behind_region(numbers.bodies))
 }
 
@@ -129,7 +129,10 @@ fn load_originals(draft: &mut Draft, here: &Here<'_>, copies: &[FirstCopy]) -> A
     ensures { LoadsOriginals result here.now copies.now draft.old draft.new }
 {
     for copy in copies {
-        draft.put(here.at.line, Instr::Load(here.tables.place(copy.original)))?;
+        draft.put(
+            here.at.line,
+            Instr::Serial(Serial::Load(here.tables.place(copy.original))),
+        )?;
     }
     Ok(())
 }

@@ -6,8 +6,8 @@ ghost use Rattle.om_scope_tree.specs.ResolvedView as view;
 ghost use Rattle.om_lower.specs.Words.{BeginsSharedLoop, BeginsParts, EndsWorksharing, LoopHasCode, ScopesSharedLoop};
 ghost use Rattle.om_lower.specs.Words.{ScopesParts, comparison_of, form_with, schedule_in};
 
-use om_code::Instr;
 use om_code::instruction::{Comparison, LoopForm, Schedule};
+use om_code::{Instr, Sharing};
 use om_lower_emit::alone::worksharing_end;
 use om_lower_emit::clause::{reductions, starts};
 use om_lower_emit::draft::{Draft, Jump};
@@ -72,7 +72,10 @@ pub(crate) fn begin_worksharing(
     let from = writing.draft.place();
     writing.scopes.begin(from, None, &repeated.variable)?;
     let draft = &mut writing.draft;
-    draft.put(line, Instr::Loop(form_with(repeated, comparison)))?;
+    draft.put(
+        line,
+        Instr::Sharing(Sharing::Loop(form_with(repeated, comparison))),
+    )?;
     draft.define(chunk);
     draft.put_jump(line, Jump::Grab, over)?;
     draft.define(again);
@@ -117,10 +120,10 @@ pub(crate) fn begin_parts(
     let over = writing.draft.fresh()?;
     starts(writing, here, head.clauses)?;
     let draft = &mut writing.draft;
-    draft.put(line, Instr::Sections(count))?;
+    draft.put(line, Instr::Sharing(Sharing::Sections(count)))?;
     draft.define(again);
     draft.put_jump(line, Jump::Grab, over)?;
-    draft.put(line, Instr::Pick(number))?;
+    draft.put(line, Instr::Sharing(Sharing::Pick(number)))?;
     let first = draft.fresh_list(alloc, number, count)?;
     let numbers = head.numbers.next_pick();
     Ok(PartsSpot {

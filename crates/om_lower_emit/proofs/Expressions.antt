@@ -3,6 +3,8 @@ use Rattle.std.proofs.Common.{◌≡◌, ℕ, Bool, List, [], ◌∷◌, length,
 use Rattle.om_code.specs.declared.instruction.BinaryOperator as machine
 use Rattle.om_code.specs.declared.instruction.Instr.{Instr}
 use Rattle.om_code.specs.declared.instruction.Instr.TheVariants as i
+use Rattle.om_code.specs.declared.instruction.Serial.TheVariants as serials
+use Rattle.om_code.specs.declared.instruction.Function.TheVariants as calls
 use Rattle.om_code.specs.declared.instruction.Place.{Place}
 use Rattle.om_lower_emit.specs.Drafts.{Written, Puts, PutsAll}
 use Rattle.om_lower_emit.specs.Emits.{Part, site, Emits, EmitsRow, EmitsValue, EmitsValues}
@@ -27,28 +29,28 @@ use Rattle.om_parser_tree.specs.declared.tree.PostfixOperator.{PostfixOperator}
 -- ---- a part, and one instruction
 
 pub emits_element : (names : Numbered) (l : ℕ) (x : variables.Variable) (j : ResolvedExpressionTree) (a b c : Written)
-    → EmitsValue names l j a b → Puts l (i.LoadElement (place_of names.slots x)) b c
+    → EmitsValue names l j a b → Puts l (i.Serial (serials.LoadElement (place_of names.slots x))) b c
     → EmitsValue names l (Element x j) a c
 emits_element names l x j a b c e h =
-    emits_put names (λ at. value at l j) l (i.LoadElement (place_of names.slots x)) a b c e h
+    emits_put names (λ at. value at l j) l (i.Serial (serials.LoadElement (place_of names.slots x))) a b c e h
 
 pub emits_call : (names : Numbered) (l function : ℕ) (es : ValuesTree) (body count : ℕ) (a b c : Written)
     → body ≡ called_body names.functions function → count ≡ value_count es
-    → EmitsValues names l es a b → Puts l (i.Call body count) b c → EmitsRow names (λ at. call at l function es) a c
+    → EmitsValues names l es a b → Puts l (i.Function (calls.Call body count)) b c → EmitsRow names (λ at. call at l function es) a c
 emits_call names l function es body count a b c is counts e h =
     subst (λ z. Emits (λ done at. part (values (site names done) l es)
-    ▸ ins (site names done) l (i.Call z (value_count es)) ▸ end) a c) is
-    (subst (λ z. Emits (λ done at. part (values (site names done) l es) ▸ ins (site names done) l (i.Call body z)
+    ▸ ins (site names done) l (i.Function (calls.Call z (value_count es))) ▸ end) a c) is
+    (subst (λ z. Emits (λ done at. part (values (site names done) l es) ▸ ins (site names done) l (i.Function (calls.Call body z))
     ▸ end) a c) counts
-    (emits_put names (λ at. values at l es) l (i.Call body count) a b c e h))
+    (emits_put names (λ at. values at l es) l (i.Function (calls.Call body count)) a b c e h))
 
 pub emits_used_call : (names : Numbered) (l function : ℕ) (es : ValuesTree) (a b c : Written)
-    → EmitsRow names (λ at. call at l function es) a b → Puts l i.Use b c → EmitsValue names l (Call function es) a c
-emits_used_call names l function es a b c e h = emits_put names (λ at. call at l function es) l i.Use a b c e h
+    → EmitsRow names (λ at. call at l function es) a b → Puts l (i.Serial serials.Use) b c → EmitsValue names l (Call function es) a c
+emits_used_call names l function es a b c e h = emits_put names (λ at. call at l function es) l (i.Serial serials.Use) a b c e h
 
 pub emits_right : (names : Numbered) (l : ℕ) (o : machine.BinaryOperator) (y : ResolvedExpressionTree) (a b c : Written)
-    → EmitsValue names l y a b → Puts l (i.Binary o) b c → EmitsRow names (λ at. binary_rest at l (Plain o) y) a c
-emits_right names l o y a b c e h = emits_put names (λ at. value at l y) l (i.Binary o) a b c e h
+    → EmitsValue names l y a b → Puts l (i.Serial (serials.Binary o)) b c → EmitsRow names (λ at. binary_rest at l (Plain o) y) a c
+emits_right names l o y a b c e h = emits_put names (λ at. value at l y) l (i.Serial (serials.Binary o)) a b c e h
 
 -- ---- a part, and what stands behind it
 
@@ -104,54 +106,54 @@ emits_postfix_element names l x j operator a b c h k =
 
 pub emits_set : (names : Numbered) (l : ℕ) (keeps : Bool) (x : variables.Variable) (operator : AssignOperator)
     (e : ResolvedExpressionTree) (a b c : Written)
-    → None ≡ compound_of operator → EmitsValue names l e a b → Puts l (i.Store (place_of names.slots x) keeps) b c
+    → None ≡ compound_of operator → EmitsValue names l e a b → Puts l (i.Serial (serials.Store (place_of names.slots x) keeps)) b c
     → EmitsRow names (λ at. assignment at l keeps x operator e) a c
 emits_set names l keeps x operator e a b c is h k =
     subst (λ z. EmitsRow names (λ at. assigned at l keeps x z (value at l e)) a c) is
-    (emits_put names (λ at. value at l e) l (i.Store (place_of names.slots x) keeps) a b c h k)
+    (emits_put names (λ at. value at l e) l (i.Serial (serials.Store (place_of names.slots x) keeps)) a b c h k)
 
 pub emits_compound : (names : Numbered) (l : ℕ) (keeps : Bool) (x : variables.Variable) (operator : AssignOperator)
     (o : machine.BinaryOperator) (e : ResolvedExpressionTree) (a b c d g : Written)
-    → Some o ≡ compound_of operator → Puts l (i.Load (place_of names.slots x)) a b
-    → EmitsValue names l e b c → Puts l (i.Binary o) c d → Puts l (i.Store (place_of names.slots x) keeps) d g
+    → Some o ≡ compound_of operator → Puts l (i.Serial (serials.Load (place_of names.slots x))) a b
+    → EmitsValue names l e b c → Puts l (i.Serial (serials.Binary o)) c d → Puts l (i.Serial (serials.Store (place_of names.slots x) keeps)) d g
     → EmitsRow names (λ at. assignment at l keeps x operator e) a g
 emits_compound names l keeps x operator o e a b c d g is h1 h2 h3 h4 =
     let n = length a.places in
     let n1 = put_length l _ a b h1 in
     let place = place_of names.slots x in
-    let r4 : Part = λ done at. ins (site names done) l (i.Store place keeps) ▸ end in
-    let r3 : Part = λ done at. ins (site names done) l (i.Binary o) ▸ r4 done at in
+    let r4 : Part = λ done at. ins (site names done) l (i.Serial (serials.Store place keeps)) ▸ end in
+    let r3 : Part = λ done at. ins (site names done) l (i.Serial (serials.Binary o)) ▸ r4 done at in
     let r2 : Part = λ done at. part (value (site names done) l e) ▸ r3 done at in
     subst (λ z. EmitsRow names (λ at. assigned at l keeps x z (value at l e)) a g) is
-    (goes_put names n l (i.Load place) r2 a b g h1
+    (goes_put names n l (i.Serial (serials.Load place)) r2 a b g h1
     (goes_part n (λ done at. value (site names done) l e) r3 b c g (omega arith) h2
-    (goes_put names n l (i.Binary o) r4 c d g h3
-    (goes_put names n l (i.Store place keeps) (λ done at. end) d g g h4
+    (goes_put names n l (i.Serial (serials.Binary o)) r4 c d g h3
+    (goes_put names n l (i.Serial (serials.Store place keeps)) (λ done at. end) d g g h4
     (goes_end n g)))))
 
 pub emits_set_element : (names : Numbered) (l : ℕ) (keeps : Bool) (x : variables.Variable) (operator : AssignOperator)
     (at_x : Place) (e : ResolvedExpressionTree) (a b c : Written)
     → None ≡ compound_of operator → at_x ≡ place_of names.slots x → EmitsValue names l e a b
-    → Puts l (i.StoreElement at_x keeps) b c
+    → Puts l (i.Serial (serials.StoreElement at_x keeps)) b c
     → EmitsRow names (λ at. assignment_rest at l keeps x operator e) a c
 emits_set_element names l keeps x operator at_x e a b c is here h k =
     subst (λ z. EmitsRow names (λ at. element_rest at l keeps x z (value at l e)) a c) is
-    (emits_put names (λ at. value at l e) l (i.StoreElement (place_of names.slots x) keeps) a b c h
-    (subst (λ p. Puts l (i.StoreElement p keeps) b c) here k))
+    (emits_put names (λ at. value at l e) l (i.Serial (serials.StoreElement (place_of names.slots x) keeps)) a b c h
+    (subst (λ p. Puts l (i.Serial (serials.StoreElement p keeps)) b c) here k))
 
 pub emits_compound_element : (names : Numbered) (l : ℕ) (keeps : Bool) (x : variables.Variable)
     (operator : AssignOperator) (o : machine.BinaryOperator) (at_x : Place)
     (e : ResolvedExpressionTree) (a b c d : Written)
     → Some o ≡ compound_of operator → at_x ≡ place_of names.slots x
-    → PutsAll l (i.Duplicate ∷ i.LoadElement at_x ∷ []) a b → EmitsValue names l e b c
-    → PutsAll l (i.Binary o ∷ i.StoreElement at_x keeps ∷ []) c d
+    → PutsAll l ((i.Serial serials.Duplicate) ∷ i.Serial (serials.LoadElement at_x) ∷ []) a b → EmitsValue names l e b c
+    → PutsAll l (i.Serial (serials.Binary o) ∷ i.Serial (serials.StoreElement at_x keeps) ∷ []) c d
     → EmitsRow names (λ at. assignment_rest at l keeps x operator e) a d
 emits_compound_element names l keeps x operator o at_x e a b c d is here h1 h2 h3 =
     let n = length a.places in
     let n1 = put_all_length l _ a b h1 in
     let place = place_of names.slots x in
-    let loaded : Place → List Instr = λ p. i.Duplicate ∷ i.LoadElement p ∷ [] in
-    let stored : Place → List Instr = λ p. i.Binary o ∷ i.StoreElement p keeps ∷ [] in
+    let loaded : Place → List Instr = λ p. (i.Serial serials.Duplicate) ∷ i.Serial (serials.LoadElement p) ∷ [] in
+    let stored : Place → List Instr = λ p. i.Serial (serials.Binary o) ∷ i.Serial (serials.StoreElement p keeps) ∷ [] in
     let r3 : Part = λ done at. all_ins (site names done) at l (stored place) end in
     let r2 : Part = λ done at. part (value (site names done) l e) ▸ r3 done at in
     subst (λ z. EmitsRow names (λ at. element_rest at l keeps x z (value at l e)) a d) is

@@ -5,6 +5,8 @@ use Rattle.om_code.specs.declared.instruction.Instr.{Instr}
 use Rattle.om_code.specs.declared.instruction.Place.{Place}
 use Rattle.om_code.specs.declared.instruction.Side.{Side}
 use Rattle.om_code.specs.declared.instruction.Instr.TheVariants as i
+use Rattle.om_code.specs.declared.instruction.Serial.TheVariants as serials
+use Rattle.om_code.specs.declared.instruction.Function.TheVariants as calls
 use Rattle.om_scope_tree.specs.ResolvedTree.{ResolvedExpressionTree}
 use Rattle.om_lower_rules.specs.Expressions.{value}
 use Rattle.om_lower_rules.specs.Statements.{last_instruction, returned}
@@ -43,29 +45,29 @@ emits_put_then names l x r a b c h e = goes_put names _ l x r a b c h
 pub returned_none : (names : Numbered) (l : ℕ) (is_main : Bool) (x : Instr) (a b : Written)
     → x ≡ last_instruction is_main false → Puts l x a b
     → Emits (λ done at. returned (site names done) l is_main None) a b
-returned_none names l true x a b e h = emits_one names l (i.Finish false) a b (subst (λ y. Puts l y a b) e h)
-returned_none names l false x a b e h = emits_one names l i.ReturnNothing a b (subst (λ y. Puts l y a b) e h)
+returned_none names l true x a b e h = emits_one names l (i.Function (calls.Finish false)) a b (subst (λ y. Puts l y a b) e h)
+returned_none names l false x a b e h = emits_one names l (i.Function calls.ReturnNothing) a b (subst (λ y. Puts l y a b) e h)
 
 pub returned_some : (names : Numbered) (l : ℕ) (is_main : Bool) (x : Instr) (e : ResolvedExpressionTree)
     (a b c : Written) → x ≡ last_instruction is_main true
     → Emits (λ done at. value (site names done) l e) a b → Puts l x b c
     → Emits (λ done at. returned (site names done) l is_main (Some e)) a c
 returned_some names l true x e a b c is v h =
-    emits_then_one names l (i.Finish true) (λ done at. value (site names done) l e) a b c v
+    emits_then_one names l (i.Function (calls.Finish true)) (λ done at. value (site names done) l e) a b c v
     (subst (λ y. Puts l y b c) is h)
 returned_some names l false x e a b c is v h =
-    emits_then_one names l i.Return (λ done at. value (site names done) l e) a b c v (subst (λ y. Puts l y b c) is h)
+    emits_then_one names l (i.Function calls.Return) (λ done at. value (site names done) l e) a b c v (subst (λ y. Puts l y b c) is h)
 
 -- the same instruction
 pub atomic_is : (l : ℕ) (o o2 : AtomicOperator) (s s2 : Side) (p p2 : Place) (a b : Written) → o ≡ o2 → s ≡ s2 → p ≡ p2
-    → Puts l (i.Atomic o s p) a b → Puts l (i.Atomic o2 s2 p2) a b
+    → Puts l (i.Serial (serials.Atomic o s p)) a b → Puts l (i.Serial (serials.Atomic o2 s2 p2)) a b
 atomic_is l o o2 s s2 p p2 a b e1 e2 e3 h =
-    subst (λ z. Puts l (i.Atomic o2 s2 z) a b) e3 (subst (λ z. Puts l (i.Atomic o2 z p) a b) e2
-    (subst (λ z. Puts l (i.Atomic z s p) a b) e1 h))
+    subst (λ z. Puts l (i.Serial (serials.Atomic o2 s2 z)) a b) e3 (subst (λ z. Puts l (i.Serial (serials.Atomic o2 z p)) a b) e2
+    (subst (λ z. Puts l (i.Serial (serials.Atomic z s p)) a b) e1 h))
 
 pub atomic_element_is : (l : ℕ) (o o2 : AtomicOperator) (s s2 : Side) (p p2 : Place) (a b : Written) → o ≡ o2 → s
     ≡ s2 → p ≡ p2
-    → Puts l (i.AtomicElement o s p) a b → Puts l (i.AtomicElement o2 s2 p2) a b
+    → Puts l (i.Serial (serials.AtomicElement o s p)) a b → Puts l (i.Serial (serials.AtomicElement o2 s2 p2)) a b
 atomic_element_is l o o2 s s2 p p2 a b e1 e2 e3 h =
-    subst (λ z. Puts l (i.AtomicElement o2 s2 z) a b) e3
-    (subst (λ z. Puts l (i.AtomicElement o2 z p) a b) e2 (subst (λ z. Puts l (i.AtomicElement z s p) a b) e1 h))
+    subst (λ z. Puts l (i.Serial (serials.AtomicElement o2 s2 z)) a b) e3
+    (subst (λ z. Puts l (i.Serial (serials.AtomicElement o2 z p)) a b) e2 (subst (λ z. Puts l (i.Serial (serials.AtomicElement z s p)) a b) e1 h))

@@ -2,6 +2,7 @@
 use Rattle.std.proofs.Common.{◌≡◌, ℕ, ◌+◌, ◌<◌, ◌≤◌, Some, None, length, ◌∙◌, arith}
 use Rattle.std.specs.Prelude.{slice_get}
 use Rattle.om_code.specs.declared.instruction.Instr.TheVariants as i
+use Rattle.om_code.specs.declared.instruction.Serial.TheVariants as serials
 use Rattle.om_lower_emit.specs.declared.spot.LoopLabels.{LoopLabels}
 use Rattle.om_lower_emit.specs.declared.spot.TurnLabels.{TurnLabels}
 use Rattle.om_lower_emit.specs.Going.{free_emits, free_within}
@@ -19,25 +20,25 @@ IsFree label d = slice_get d.places label ≡ Some None
 -- ---- one label, and two
 
 pub begins_else : (names : Numbered) (l head label : ℕ) (a b c d : Written) → IsFree head a → Fresh label a b
-    → Puts l (i.Jump label) b c → Defines head c d
+    → Puts l (i.Serial (serials.Jump label)) b c → Defines head c d
     → Opens head label (else_begin names l head label) a d
 begins_else names l head label a b c d f h p e =
     let w = free_within head a f in
     let len = h.is in
     record {
       goes = goes_fresh head label _ a b d (omega arith) h
-          (goes_put names head l (i.Jump label) (λ done at. here (at head) ▸ end) b c d p
+          (goes_put names head l (i.Serial (serials.Jump label)) (λ done at. here (at head) ▸ end) b c d p
           (goes_here head head (λ done at. end) c d d (omega arith) e (goes_end head d)));
       above = omega (arith, len);
       free = free_define label head c d (λ q. omega (arith, len, w, q)) e
-          (free_put label l (i.Jump label) b c p (free_new label a b h));
+          (free_put label l (i.Serial (serials.Jump label)) b c p (free_new label a b h));
     }
 
-pub ends_loop : (names : Numbered) (l : ℕ) (labels : LoopLabels) (a b c : Written) → Puts l (i.Jump labels.again) a b
+pub ends_loop : (names : Numbered) (l : ℕ) (labels : LoopLabels) (a b c : Written) → Puts l (i.Serial (serials.Jump labels.again)) a b
     → Defines labels.over b c
     → Goes labels.over (loop_end names l labels) a c
 ends_loop names l labels a b c p e =
-    goes_put names labels.over l (i.Jump labels.again) (λ done at. here (at labels.over) ▸ end) a b c p
+    goes_put names labels.over l (i.Serial (serials.Jump labels.again)) (λ done at. here (at labels.over) ▸ end) a b c p
     (goes_here labels.over labels.over (λ done at. end) b c c (omega arith) e (goes_end labels.over c))
 
 -- two labels, of which the first is placed at once

@@ -4,6 +4,9 @@ use Rattle.std.specs.Prelude.{◌≡◌, ◌≤◌, ◌<◌, ◌+◌, ◌^◌, �
 use Rattle.std.specs.Prelude.{All, map, slice_get, slice_set}
 use Rattle.om_code.specs.declared.instruction.Instr.{Instr}
 use Rattle.om_code.specs.declared.instruction.Instr.TheVariants as i
+use Rattle.om_code.specs.declared.instruction.Serial.TheVariants as serials
+use Rattle.om_code.specs.declared.instruction.Sharing.TheVariants as sharings
+use Rattle.om_code.specs.declared.instruction.Region.TheVariants as regionals
 use Rattle.om_code.specs.declared.raw.Line.{Line}
 use Rattle.om_lower_emit.specs.declared.draft.DraftLine.{DraftLine}
 use Rattle.om_lower_emit.specs.declared.draft.DraftLine.TheVariants as lines
@@ -28,12 +31,12 @@ Labels = ℕ → ℕ
 
 -- an instruction whose target is a place, in one whose target is a label
 abbrev pub moved : Labels → Instr → Instr
-moved at (i.Jump label) = i.Jump (at label)
-moved at (i.JumpIfZero label) = i.JumpIfZero (at label)
-moved at (i.Grab label) = i.Grab (at label)
-moved at (i.Iterate slot label) = i.Iterate slot (at label)
-moved at (i.Single label) = i.Single (at label)
-moved at (i.Masked label) = i.Masked (at label)
+moved at (i.Serial (serials.Jump label)) = i.Serial (serials.Jump (at label))
+moved at (i.Serial (serials.JumpIfZero label)) = i.Serial (serials.JumpIfZero (at label))
+moved at (i.Sharing (sharings.Grab label)) = i.Sharing (sharings.Grab (at label))
+moved at (i.Sharing (sharings.Iterate slot label)) = i.Sharing (sharings.Iterate slot (at label))
+moved at (i.Sharing (sharings.Single label)) = i.Sharing (sharings.Single (at label))
+moved at (i.Region (regionals.Masked label)) = i.Region (regionals.Masked (at label))
 moved at instruction = instruction
 
 abbrev pub settled : Labels → Line → Line
@@ -55,12 +58,12 @@ settled_code d = map (settled (place_in d.places)) d.code
 
 -- a jump to a target, as an instruction
 abbrev pub jump_to : Jump → (target : ℕ) → Instr
-jump_to jumps.Always target = i.Jump target
-jump_to jumps.IfZero target = i.JumpIfZero target
-jump_to jumps.Grab target = i.Grab target
-jump_to (jumps.Iterate slot) target = i.Iterate slot target
-jump_to jumps.Single target = i.Single target
-jump_to jumps.Masked target = i.Masked target
+jump_to jumps.Always target = i.Serial (serials.Jump target)
+jump_to jumps.IfZero target = i.Serial (serials.JumpIfZero target)
+jump_to jumps.Grab target = i.Sharing (sharings.Grab target)
+jump_to (jumps.Iterate slot) target = i.Sharing (sharings.Iterate slot target)
+jump_to jumps.Single target = i.Sharing (sharings.Single target)
+jump_to jumps.Masked target = i.Region (regionals.Masked target)
 
 -- an instruction with its line; the target of a jump is its label
 abbrev pub line_in : DraftLine → Line

@@ -4,6 +4,7 @@ use Rattle.std.specs.Prelude.{ℕ, pos, List, [], ◌∷◌, OnOk, Option, None,
 use Rattle.om_code.specs.declared.instruction.BinaryOperator as machine
 use Rattle.om_code.specs.declared.instruction.Instr.{Instr}
 use Rattle.om_code.specs.declared.instruction.Instr.TheVariants as i
+use Rattle.om_code.specs.declared.instruction.Serial.TheVariants as serials
 use Rattle.om_code.specs.declared.instruction.UnaryOperator.TheVariants as unary
 use Rattle.om_lower_emit.specs.declared.expression.Target.{Target}
 use Rattle.om_lower_emit.specs.declared.spot.Here.{Here}
@@ -38,35 +39,35 @@ call at l function es = called at l function es (values at l es)
 -- behind the operand of a unary operator
 abbrev pub unary_rest : Site → ℕ → UnaryOperator → Row
 unary_rest at l unaries.Plus = end
-unary_rest at l unaries.Negate = ins at l (i.Unary unary.Negate) ▸ end
-unary_rest at l unaries.Not = ins at l (i.Unary unary.Not) ▸ end
+unary_rest at l unaries.Negate = ins at l (i.Serial (serials.Unary unary.Negate)) ▸ end
+unary_rest at l unaries.Not = ins at l (i.Serial (serials.Unary unary.Not)) ▸ end
 
 -- what jumps to `otherwise` where the value on top is 0, and pushes 1 and jumps to `over` where it is not
 abbrev pub one_unless_zero : (otherwise over : ℕ) → List Instr
-one_unless_zero otherwise over = i.JumpIfZero otherwise ∷ i.Constant (pos 1) ∷ i.Jump over ∷ []
+one_unless_zero otherwise over = i.Serial (serials.JumpIfZero otherwise) ∷ i.Serial (serials.Constant (pos 1)) ∷ i.Serial (serials.Jump over) ∷ []
 
 -- 1 where the value on top is not 0, and 0 where it is; what jumped to the label f gets the 0, and what jumped to
 -- the label e goes on behind it
 abbrev pub truth_row : Site → ℕ → (f e : ℕ) → Row
 truth_row at l f e =
-    ins at l (i.JumpIfZero f) ▸ ins at l (i.Constant (pos 1)) ▸ ins at l (i.Jump e)
-    ▸ here f ▸ ins at l (i.Constant (pos 0)) ▸ here e ▸ end
+    ins at l (i.Serial (serials.JumpIfZero f)) ▸ ins at l (i.Serial (serials.Constant (pos 1))) ▸ ins at l (i.Serial (serials.Jump e))
+    ▸ here f ▸ ins at l (i.Serial (serials.Constant (pos 0))) ▸ here e ▸ end
 
 -- behind the left operand of an operator between two
 abbrev pub binary_rest : Site → ℕ → BinaryForm → ResolvedExpressionTree → Row
 binary_rest at l Both b = fresh_two (λ f e.
-    ins at l (i.JumpIfZero f) ▸ part (value at l b) ▸ truth_row at l f e)
+    ins at l (i.Serial (serials.JumpIfZero f)) ▸ part (value at l b) ▸ truth_row at l f e)
 binary_rest at l Either b = fresh_three (λ n f e.
-    ins at l (i.JumpIfZero n) ▸ ins at l (i.Constant (pos 1)) ▸ ins at l (i.Jump e)
+    ins at l (i.Serial (serials.JumpIfZero n)) ▸ ins at l (i.Serial (serials.Constant (pos 1))) ▸ ins at l (i.Serial (serials.Jump e))
     ▸ here n ▸ part (value at l b) ▸ truth_row at l f e)
-binary_rest at l (Plain operator) b = part (value at l b) ▸ ins at l (i.Binary operator) ▸ end
+binary_rest at l (Plain operator) b = part (value at l b) ▸ ins at l (i.Serial (serials.Binary operator)) ▸ end
 
 -- behind the index of an assignment to an element
 abbrev pub element_rest : Site → ℕ → Bool → variables.Variable → Option machine.BinaryOperator → Row → Row
-element_rest at l keeps a None e = part e ▸ ins at l (i.StoreElement (place at a) keeps) ▸ end
+element_rest at l keeps a None e = part e ▸ ins at l (i.Serial (serials.StoreElement (place at a) keeps)) ▸ end
 element_rest at l keeps a (Some operator) e =
-    ins at l i.Duplicate ▸ ins at l (i.LoadElement (place at a)) ▸ part e
-    ▸ ins at l (i.Binary operator) ▸ ins at l (i.StoreElement (place at a) keeps) ▸ end
+    ins at l (i.Serial serials.Duplicate) ▸ ins at l (i.Serial (serials.LoadElement (place at a))) ▸ part e
+    ▸ ins at l (i.Serial (serials.Binary operator)) ▸ ins at l (i.Serial (serials.StoreElement (place at a) keeps)) ▸ end
 
 -- behind the index of `a[j] = e` and `a[j] op= e`
 abbrev pub assignment_rest : Site → ℕ → Bool → variables.Variable → AssignOperator

@@ -2,6 +2,11 @@
 use Rattle.std.specs.Prelude.{◌≡◌, ◌≤◌, ◌<◌, ℕ, List, Option, Some, None, Bool, false, IfOk, IfSome, length}
 use Rattle.std.specs.Prelude.{OnOk, Result, map, option_map, slice_get}
 use Rattle.om_code.specs.declared.instruction.Instr.TheVariants as i
+use Rattle.om_code.specs.declared.instruction.Serial.TheVariants as serials
+use Rattle.om_code.specs.declared.instruction.Team.TheVariants as teams
+use Rattle.om_code.specs.declared.instruction.Sharing.TheVariants as sharings
+use Rattle.om_code.specs.declared.instruction.Region.TheVariants as regionals
+use Rattle.om_code.specs.declared.instruction.Task.TheVariants as taskings
 use Rattle.om_code.specs.declared.instruction.Comparison.{Comparison}
 use Rattle.om_lower_emit.specs.declared.spot.LoopLabels.{LoopLabels}
 use Rattle.om_lower_emit.specs.declared.spot.TurnLabels.{TurnLabels}
@@ -72,11 +77,11 @@ value_in clauses = clause_value (map view.clause clauses)
 -- a copy of a reduction begins with the operator's identity, and a firstprivate one with its original's value
 abbrev pub identity_start : Site → ℕ → ReductionOperator → LocalVariable → Row
 identity_start at l operator copy =
-    ins at l (i.Constant (identity_of operator)) ▸ ins at l (i.Store (place at (named.Local copy.at)) false) ▸ end
+    ins at l (i.Serial (serials.Constant (identity_of operator))) ▸ ins at l (i.Serial (serials.Store (place at (named.Local copy.at)) false)) ▸ end
 
 abbrev pub original_start : Site → ℕ → variables.Variable → LocalVariable → Row
 original_start at l original copy =
-    ins at l (i.Load (place at original)) ▸ ins at l (i.Store (place at (named.Local copy.at)) false) ▸ end
+    ins at l (i.Serial (serials.Load (place at original))) ▸ ins at l (i.Serial (serials.Store (place at (named.Local copy.at)) false)) ▸ end
 
 -- the bounds of a worksharing loop, and what its copies begin with
 abbrev pub bounds_row : ℕ → List ResolvedClauseTree → ResolvedLoopTree → Site → Row
@@ -85,10 +90,10 @@ bounds_row l clauses loop at = part (value at loop.at.line loop.from) ▸ part (
 
 -- FORK and SPAWN
 abbrev pub fork_row : ℕ → ℕ → Bool → ℕ → Site → Row
-fork_row l body sized values at = ins at l (i.Fork body sized values) ▸ end
+fork_row l body sized values at = ins at l (i.Team (teams.Fork body sized values)) ▸ end
 
 abbrev pub spawn_row : ℕ → ℕ → ℕ → Site → Row
-spawn_row l body values at = ins at l (i.Spawn body values) ▸ end
+spawn_row l body values at = ins at l (i.Task (taskings.Spawn body values)) ▸ end
 
 -- ---- stretches whose labels are placed later
 
@@ -161,7 +166,7 @@ EmitsJump l label old new = (names : Numbered)
 
 -- JMP E, L:
 abbrev pub else_begin : Numbered → ℕ → (head behind : ℕ) → Part
-else_begin names l head behind done at = ins (site names done) l (i.Jump (at behind)) ▸ here (at head) ▸ end
+else_begin names l head behind done at = ins (site names done) l (i.Serial (serials.Jump (at behind))) ▸ here (at head) ▸ end
 
 -- L: c, JZ E
 abbrev pub while_begin : Numbered → ℕ → ResolvedExpressionTree → LoopLabels → Part
@@ -169,7 +174,7 @@ while_begin names l c labels done at = here (at labels.again) ▸ test (site nam
 
 -- JMP L, E:
 abbrev pub loop_end : Numbered → ℕ → LoopLabels → Part
-loop_end names l labels done at = ins (site names done) l (i.Jump (at labels.again)) ▸ here (at labels.over) ▸ end
+loop_end names l labels done at = ins (site names done) l (i.Serial (serials.Jump (at labels.again))) ▸ here (at labels.over) ▸ end
 
 abbrev pub loop_labels : TurnLabels → LoopLabels
 loop_labels labels = record { again = labels.again; over = labels.over }
@@ -200,9 +205,9 @@ for_end names l labels step done at =
 abbrev pub worksharing_rest : Numbered → ℕ → List ResolvedClauseTree → ResolvedLoopTree → LoopLabels → (chunk : ℕ)
     → Comparison → Part
 worksharing_rest names l clauses loop labels chunk comparison done at =
-    part (bounds_row l clauses loop (site names done)) ▸ ins (site names done) l (i.Loop (form_with loop comparison))
-    ▸ here (at chunk) ▸ ins (site names done) l (i.Grab (at labels.over))
-    ▸ here (at labels.again) ▸ ins (site names done) l (i.Iterate (slot (site names done) loop.variable) (at chunk))
+    part (bounds_row l clauses loop (site names done)) ▸ ins (site names done) l (i.Sharing (sharings.Loop (form_with loop comparison)))
+    ▸ here (at chunk) ▸ ins (site names done) l (i.Sharing (sharings.Grab (at labels.over)))
+    ▸ here (at labels.again) ▸ ins (site names done) l (i.Sharing (sharings.Iterate (slot (site names done) loop.variable) (at chunk)))
     ▸ end
 
 abbrev pub worksharing_begin : Numbered → ℕ → List ResolvedClauseTree → ResolvedLoopTree → LoopLabels → Part
@@ -218,21 +223,21 @@ pub record Parts : Type 0 where
 -- starts, SECT n, G: GRAB E, PICK
 abbrev pub sections_begin : Numbered → ℕ → List ResolvedClauseTree → Parts → LoopLabels → Part
 sections_begin names l clauses sections labels done at =
-    part (starts (site names done) l clauses) ▸ ins (site names done) l (i.Sections sections.count)
-    ▸ here (at labels.again) ▸ ins (site names done) l (i.Grab (at labels.over)) ▸ ins (site names done) l
-    (i.Pick sections.number) ▸ end
+    part (starts (site names done) l clauses) ▸ ins (site names done) l (i.Sharing (sharings.Sections sections.count))
+    ▸ here (at labels.again) ▸ ins (site names done) l (i.Sharing (sharings.Grab (at labels.over))) ▸ ins (site names done) l
+    (i.Sharing (sharings.Pick sections.number)) ▸ end
 
 -- what stands before the statement of a construct that is no `atomic`
 abbrev pub construct_begin : Numbered → ℕ → ConstructKind → List ResolvedClauseTree → (label : ℕ) → Part
 construct_begin names l (constructs.Single nowait) clauses label done at =
-    ins (site names done) l (i.Single (at label)) ▸ starts (site names done) l clauses
+    ins (site names done) l (i.Sharing (sharings.Single (at label))) ▸ starts (site names done) l clauses
 construct_begin names l constructs.Masked clauses label done at =
-    part (filter_row (site names done) l (clause_value clauses)) ▸ ins (site names done) l (i.Masked (at label)) ▸ end
+    part (filter_row (site names done) l (clause_value clauses)) ▸ ins (site names done) l (i.Region (regionals.Masked (at label))) ▸ end
 construct_begin names l (constructs.Critical name) clauses label done at =
-    ins (site names done) l (i.AskCritical (lock_number (site names done) name))
-    ▸ ins (site names done) l (i.EnterCritical (lock_number (site names done) name)) ▸ end
-construct_begin names l constructs.Atomic clauses label done at = never
-construct_begin names l constructs.Taskgroup clauses label done at = ins (site names done) l i.GroupBegin ▸ end
+    ins (site names done) l (i.Region (regionals.AskCritical (lock_number (site names done) name)))
+    ▸ ins (site names done) l (i.Region (regionals.EnterCritical (lock_number (site names done) name))) ▸ end
+construct_begin names l (constructs.Atomic access) clauses label done at = never
+construct_begin names l constructs.Taskgroup clauses label done at = ins (site names done) l (i.Task taskings.GroupBegin) ▸ end
 
 -- a function writes it there, unless memory runs out, and gives the label that is still to be placed
 abbrev pub BeginsConstruct : {E : Type 0} → Result ℕ E → Here → ConstructKind → List ResolvedClause → Writing → Writing
@@ -245,11 +250,11 @@ BeginsConstruct result here kind clauses old new =
 abbrev pub construct_end : Numbered → ℕ → ConstructKind → (label : ℕ) → Part
 construct_end names l (constructs.Single nowait) label done at = here (at label) ▸ worksharing_end (site names done)
     l nowait
-construct_end names l constructs.Masked label done at = ins (site names done) l i.EndMasked ▸ here (at label) ▸ end
+construct_end names l constructs.Masked label done at = ins (site names done) l (i.Region regionals.EndMasked) ▸ here (at label) ▸ end
 construct_end names l (constructs.Critical name) label done at =
-    ins (site names done) l (i.LeaveCritical (lock_number (site names done) name)) ▸ end
-construct_end names l constructs.Atomic label done at = never
-construct_end names l constructs.Taskgroup label done at = ins (site names done) l i.GroupEnd ▸ end
+    ins (site names done) l (i.Region (regionals.LeaveCritical (lock_number (site names done) name))) ▸ end
+construct_end names l (constructs.Atomic access) label done at = never
+construct_end names l constructs.Taskgroup label done at = ins (site names done) l (i.Task taskings.GroupEnd) ▸ end
 
 -- a function writes it there, unless memory runs out, and places the label, unless the construct has no use for one
 abbrev pub EndsConstruct : {T E : Type 0} → Result T E → Here → ConstructKind → (label : ℕ) → Written → Written → Type 0
@@ -257,11 +262,11 @@ EndsConstruct result here kind label old new =
     AppendsEnd result here label (λ names l. construct_end names l kind) label old new
 
 abbrev pub IsNoAtomic : ConstructKind → Type 0
-IsNoAtomic constructs.Atomic = ⊥
+IsNoAtomic (constructs.Atomic access) = ⊥
 IsNoAtomic _ = Unit {0}
 
 -- a construct that is no `atomic`, with a filter that has code
 abbrev pub BeginHasCode : ConstructKind → List ResolvedClauseTree → Type 0
-BeginHasCode constructs.Atomic clauses = ⊥
+BeginHasCode (constructs.Atomic access) clauses = ⊥
 BeginHasCode constructs.Masked clauses = IfSome (clause_value clauses) ValueHasCode
 BeginHasCode _ clauses = Unit {0}

@@ -11,8 +11,8 @@ use crate::expression::value;
 use crate::operator::{side_of, update_of};
 use crate::spot::Here;
 use crate::unused::effect;
-use om_code::Instr;
 use om_code::instruction::Barrier;
+use om_code::{Instr, Serial, Sharing, Task, Team};
 use om_scope_tree::{ResolvedStatement, ResolvedUpdate, StandAlone};
 use om_seq::AllocResult;
 
@@ -26,16 +26,16 @@ pub fn stand_alone(draft: &mut Draft, line: u32, directive: &StandAlone) -> Allo
             Ok(())
         }
         StandAlone::Taskwait => {
-            draft.put(line, Instr::WaitBegin)?;
-            draft.put(line, Instr::WaitEnd)?;
+            draft.put(line, Instr::Task(Task::WaitBegin))?;
+            draft.put(line, Instr::Task(Task::WaitEnd))?;
             Ok(())
         }
         StandAlone::Taskyield => {
-            draft.put(line, Instr::Yield)?;
+            draft.put(line, Instr::Task(Task::Yield))?;
             Ok(())
         }
         StandAlone::Flush(_) => {
-            draft.put(line, Instr::Nop)?;
+            draft.put(line, Instr::Serial(Serial::Nop))?;
             Ok(())
         }
     }
@@ -55,11 +55,11 @@ pub fn update(draft: &mut Draft, here: &Here<'_>, update: &ResolvedUpdate) -> Al
             value(draft, here, &update.operand)?;
             draft.put(
                 here.at.line,
-                Instr::Atomic {
+                Instr::Serial(Serial::Atomic {
                     operator,
                     side,
                     place,
-                },
+                }),
             )?;
             Ok(())
         }
@@ -68,11 +68,11 @@ pub fn update(draft: &mut Draft, here: &Here<'_>, update: &ResolvedUpdate) -> Al
             value(draft, here, &update.operand)?;
             draft.put(
                 here.at.line,
-                Instr::AtomicElement {
+                Instr::Serial(Serial::AtomicElement {
                     operator,
                     side,
                     place,
-                },
+                }),
             )?;
             Ok(())
         }
@@ -114,8 +114,8 @@ pub fn jump(draft: &mut Draft, line: u32, label: Option<usize>) -> AllocResult<(
 pub fn barrier(draft: &mut Draft, line: u32, kind: Barrier) -> AllocResult<()>
     ensures { AppendsAnywhere result (λ at. barrier at line kind) draft.old draft.new }
 {
-    draft.put(line, Instr::Arrive(kind))?;
-    draft.put(line, Instr::Depart(kind))?;
+    draft.put(line, Instr::Team(Team::Arrive(kind)))?;
+    draft.put(line, Instr::Team(Team::Depart(kind)))?;
     Ok(())
 }
 
@@ -124,7 +124,7 @@ pub fn barrier(draft: &mut Draft, line: u32, kind: Barrier) -> AllocResult<()>
 pub fn worksharing_end(draft: &mut Draft, line: u32, nowait: bool) -> AllocResult<()>
     ensures { AppendsAnywhere result (λ at. worksharing_end at line nowait) draft.old draft.new }
 {
-    draft.put(line, Instr::EndWorksharing)?;
+    draft.put(line, Instr::Sharing(Sharing::EndWorksharing))?;
     if !nowait {
         barrier(draft, line, Barrier::Worksharing)?;
     }

@@ -13,7 +13,7 @@ use crate::operator::{identity_of, reduction_of};
 use crate::single::{load, store};
 use crate::spot::Here;
 use crate::writing::{ScopeStack, Writing};
-use om_code::Instr;
+use om_code::{Instr, Serial, Sharing};
 use om_pragma::ReductionOperator;
 use om_scope_tree::{CopyKind, LocalVariable, ResolvedClause, ResolvedExpression, Variable};
 use om_seq::AllocResult;
@@ -40,7 +40,7 @@ fn set_identity(
     ensures { AppendsBy result here.now identity_start operator copy.now draft.old draft.new }
 {
     let identity = identity_of(operator);
-    draft.put(here.at.line, Instr::Constant(identity))?;
+    draft.put(here.at.line, Instr::Serial(Serial::Constant(identity)))?;
     store(draft, here, Variable::Local(copy.at), false)?;
     Ok(())
 }
@@ -74,7 +74,10 @@ fn begin_copy(draft: &mut Draft, here: &Here<'_>, clause: &ResolvedClause) -> Al
     };
     match kind {
         CopyKind::Private => {
-            draft.put(here.at.line, Instr::Clear(here.tables.slot(copy)))?;
+            draft.put(
+                here.at.line,
+                Instr::Serial(Serial::Clear(here.tables.slot(copy))),
+            )?;
             Ok(())
         }
         CopyKind::Firstprivate => {
@@ -212,11 +215,11 @@ fn combine_clause(draft: &mut Draft, here: &Here<'_>, clause: &ResolvedClause) -
     let copy = here.tables.slot(copy);
     draft.put(
         here.at.line,
-        Instr::Reduce {
+        Instr::Sharing(Sharing::Reduce {
             reduction,
             copy,
             place,
-        },
+        }),
     )?;
     Ok(())
 }

@@ -12,7 +12,7 @@ use crate::draft::{Draft, Jump};
 use crate::expression::value;
 use crate::spot::Here;
 use crate::writing::Writing;
-use om_code::Instr;
+use om_code::{Instr, Region, Serial, Task};
 use om_scope_tree::{ConstructKind, ResolvedClause};
 use om_seq::AllocResult;
 
@@ -24,7 +24,7 @@ fn filter(draft: &mut Draft, here: &Here<'_>, clauses: &[ResolvedClause]) -> All
 {
     match clause_value(clauses) {
         None => {
-            draft.put(here.at.line, Instr::Constant(0))?;
+            draft.put(here.at.line, Instr::Serial(Serial::Constant(0)))?;
             Ok(())
         }
         Some(number) => value(draft, here, number),
@@ -56,11 +56,15 @@ pub fn begin_construct(
         }
         ConstructKind::Critical { name } => {
             let lock = here.tables.lock_number(name);
-            writing.draft.put(line, Instr::AskCritical(lock))?;
-            writing.draft.put(line, Instr::EnterCritical(lock))?;
+            writing
+                .draft
+                .put(line, Instr::Region(Region::AskCritical(lock)))?;
+            writing
+                .draft
+                .put(line, Instr::Region(Region::EnterCritical(lock)))?;
         }
-        ConstructKind::Atomic => unreachable!(),
-        ConstructKind::Taskgroup => writing.draft.put(line, Instr::GroupBegin)?,
+        ConstructKind::Atomic { .. } => unreachable!(),
+        ConstructKind::Taskgroup => writing.draft.put(line, Instr::Task(Task::GroupBegin))?,
     }
     Ok(label)
 }
@@ -84,18 +88,18 @@ pub fn end_construct(
             Ok(())
         }
         ConstructKind::Masked => {
-            draft.put(line, Instr::EndMasked)?;
+            draft.put(line, Instr::Region(Region::EndMasked))?;
             draft.define(label);
             Ok(())
         }
         ConstructKind::Critical { name } => {
             let lock = here.tables.lock_number(name);
-            draft.put(line, Instr::LeaveCritical(lock))?;
+            draft.put(line, Instr::Region(Region::LeaveCritical(lock)))?;
             Ok(())
         }
-        ConstructKind::Atomic => unreachable!(),
+        ConstructKind::Atomic { .. } => unreachable!(),
         ConstructKind::Taskgroup => {
-            draft.put(line, Instr::GroupEnd)?;
+            draft.put(line, Instr::Task(Task::GroupEnd))?;
             Ok(())
         }
     }

@@ -14,7 +14,7 @@ use crate::single::store;
 use crate::spot::Here;
 use crate::unused::effect;
 use crate::writing::{ScopeStack, Writing};
-use om_code::Instr;
+use om_code::{Function, Instr, Serial};
 use om_scope_tree::{
     LocalVariable, ResolvedDeclarator, ResolvedExpression, ResolvedStart, Variable,
 };
@@ -39,7 +39,10 @@ fn initialize(draft: &mut Draft, here: &Here<'_>, declared: &ResolvedDeclarator)
     let variable = &declared.variable;
     match &declared.initial {
         None => {
-            draft.put(here.at.line, Instr::Clear(here.tables.slot(variable)))?;
+            draft.put(
+                here.at.line,
+                Instr::Serial(Serial::Clear(here.tables.slot(variable))),
+            )?;
             Ok(())
         }
         Some(initial) => {
@@ -179,10 +182,10 @@ pub fn last_instruction(is_main: bool, has_value: bool) -> Instr
     ensures plain { HasNoTarget result }
 {
     if is_main {
-        Instr::Finish { has_value }
+        Instr::Function(Function::Finish { has_value })
     } else if has_value {
-        Instr::Return
+        Instr::Function(Function::Return)
     } else {
-        Instr::ReturnNothing
+        Instr::Function(Function::ReturnNothing)
     }
 }

@@ -4,8 +4,8 @@ ghost use Rattle.std.specs.Prelude.{◌≡◌, ◌<◌, ◌^◌, IfOk, OnOk, len
 ghost use Rattle.om_lower_emit.specs.Drafts.{AreShort, Defines, Fresh, FreshLabels, FreshList, HasNoTarget, HaveNoTarget, IsPlain, Puts, PutsAll, jump_to, line_in, nothing, place_in, settled, settled_code};
 ghost use Rattle.om_lower_emit.specs.Settled.{settled_list, settled_lists};
 
-use om_code::Instr;
 use om_code::raw::Line;
+use om_code::{Instr, Region, Serial, Sharing};
 use om_seq::{AllocResult, Seq};
 use std::alloc::Global;
 use std::marker::Model;
@@ -207,15 +207,15 @@ fn jump_to(jump: Jump, target: u32) -> Instr
     ensures { result ≡ jump_to jump target }
 {
     match jump {
-        Jump::Always => Instr::Jump(target),
-        Jump::IfZero => Instr::JumpIfZero(target),
-        Jump::Grab => Instr::Grab(target),
-        Jump::Iterate { slot } => Instr::Iterate {
+        Jump::Always => Instr::Serial(Serial::Jump(target)),
+        Jump::IfZero => Instr::Serial(Serial::JumpIfZero(target)),
+        Jump::Grab => Instr::Sharing(Sharing::Grab(target)),
+        Jump::Iterate { slot } => Instr::Sharing(Sharing::Iterate {
             slot,
             otherwise: target,
-        },
-        Jump::Single => Instr::Single(target),
-        Jump::Masked => Instr::Masked(target),
+        }),
+        Jump::Single => Instr::Sharing(Sharing::Single(target)),
+        Jump::Masked => Instr::Region(Region::Masked(target)),
     }
 }
 

@@ -13,7 +13,7 @@ use crate::single::{
     load, load_element, one_unless_zero, postfix, postfix_element, store, truth, unary_end,
 };
 use crate::spot::Here;
-use om_code::Instr;
+use om_code::{Function, Instr, Serial, Team};
 use om_parser_tree::AssignOperator;
 use om_scope_tree::{ResolvedExpression, Variable};
 use om_seq::AllocResult;
@@ -38,7 +38,10 @@ pub fn value(draft: &mut Draft, here: &Here<'_>, e: &ResolvedExpression) -> Allo
     ensures { Appends result here.now value (view.expression e.now) draft.old draft.new }
 {
     match e {
-        ResolvedExpression::Constant(number) => draft.put(here.at.line, Instr::Constant(*number)),
+        ResolvedExpression::Constant(number) => draft.put(
+            here.at.line,
+            Instr::Serial(Serial::Constant(*number)),
+        ),
         ResolvedExpression::Variable(variable) => load(draft, here, *variable),
         ResolvedExpression::Element { array, index } => {
             value(draft, here, index)?;
@@ -46,10 +49,13 @@ pub fn value(draft: &mut Draft, here: &Here<'_>, e: &ResolvedExpression) -> Allo
         }
         ResolvedExpression::Call { function, values } => {
             call(draft, here, *function, values.as_slice())?;
-            draft.put(here.at.line, Instr::Use)
+            draft.put(here.at.line, Instr::Serial(Serial::Use))
         }
-        ResolvedExpression::ThreadNumber => draft.put(here.at.line, Instr::ThreadNumber),
-        ResolvedExpression::TeamSize => draft.put(here.at.line, Instr::TeamSize),
+        ResolvedExpression::ThreadNumber => draft.put(
+            here.at.line,
+            Instr::Team(Team::ThreadNumber),
+        ),
+        ResolvedExpression::TeamSize => draft.put(here.at.line, Instr::Team(Team::TeamSize)),
         ResolvedExpression::Print { .. } => unreachable!(),
         ResolvedExpression::Unary { operator, operand } => {
             value(draft, here, operand)?;
@@ -148,7 +154,10 @@ pub(crate) fn call(
     let body = here.tables.called_body(function);
     values(draft, here, arguments)?;
     let values = arguments.len() as u16;
-    draft.put(here.at.line, Instr::Call { body, values })
+    draft.put(
+        here.at.line,
+        Instr::Function(Function::Call { body, values }),
+    )
 }
 
 // Writes what stands behind the left operand of an operator between two (C17 6.5.5 to 6.5.14).
@@ -167,7 +176,7 @@ fn binary_end(
         Form::Either => either_end(draft, here, right),
         Form::Plain(operator) => {
             value(draft, here, right)?;
-            draft.put(here.at.line, Instr::Binary(operator))
+            draft.put(here.at.line, Instr::Serial(Serial::Binary(operator)))
         }
     }
 }
@@ -219,7 +228,7 @@ pub(crate) fn assign(
         Some(operator) => {
             load(draft, here, target.variable)?;
             value(draft, here, e)?;
-            draft.put(here.at.line, Instr::Binary(operator))?;
+            draft.put(here.at.line, Instr::Serial(Serial::Binary(operator)))?;
             store(draft, here, target.variable, target.keeps)
         }
     }
@@ -239,16 +248,22 @@ pub(crate) fn assign_element(
     let line = here.at.line;
     let place = here.tables.place(target.variable);
     let keeps = target.keeps;
-    let store = Instr::StoreElement { place, keeps };
+    let store = Instr::Serial(Serial::StoreElement { place, keeps });
     match compound_of(target.operator) {
         None => {
             value(draft, here, e)?;
             draft.put(line, store)
         }
         Some(operator) => {
-            draft.put_all(line, &[Instr::Duplicate, Instr::LoadElement(place)])?;
+            draft.put_all(
+                line,
+                &[
+                    Instr::Serial(Serial::Duplicate),
+                    Instr::Serial(Serial::LoadElement(place)),
+                ],
+            )?;
             value(draft, here, e)?;
-            draft.put_all(line, &[Instr::Binary(operator), store])
+            draft.put_all(line, &[Instr::Serial(Serial::Binary(operator)), store])
         }
     }
 }

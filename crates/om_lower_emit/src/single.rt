@@ -1,7 +1,6 @@
 //! The code of what no expression stands in.
 
 ghost use Rattle.std.specs.Prelude.{◌≡◌, ◌<◌, OnOk, slice_get};
-ghost use Rattle.om_code.specs.declared.instruction.Instr.TheVariants.{Load, LoadElement, Store};
 ghost use Rattle.om_lower_emit.specs.Rests as rows;
 ghost use Rattle.om_lower_emit.specs.Words.{Adds, Appends, AppendsBy, AppendsElementStep, AppendsStep, AppendsTruth};
 ghost use Rattle.om_lower_emit.specs.Words.{PutsAll, inverse_step_of, one_unless_zero, place_at, stepped_back, value};
@@ -10,25 +9,25 @@ ghost use Rattle.om_scope_tree.specs.ResolvedTree as trees;
 use crate::draft::{Draft, Jump};
 use crate::operator::{inverse_step_of, step_of};
 use crate::spot::Here;
-use om_code::{Instr, instruction};
+use om_code::{Instr, Serial, instruction};
 use om_parser_tree::PostfixOperator;
 use om_scope_tree::{UnaryOperator, Variable};
 use om_seq::AllocResult;
 
 /// Loads a variable.
 pub(crate) fn load(draft: &mut Draft, here: &Here<'_>, variable: Variable) -> AllocResult<()>
-    ensures { Adds result here.now (Load (place_at here.now variable)) draft.old draft.new }
+    ensures { Adds result here.now (Instr.Serial (Serial.Load (place_at here.now variable))) draft.old draft.new }
 {
     let place = here.tables.place(variable);
-    draft.put(here.at.line, Instr::Load(place))
+    draft.put(here.at.line, Instr::Serial(Serial::Load(place)))
 }
 
 /// Loads the element of an array whose index is on top.
 pub(crate) fn load_element(draft: &mut Draft, here: &Here<'_>, array: Variable) -> AllocResult<()>
-    ensures { Adds result here.now (LoadElement (place_at here.now array)) draft.old draft.new }
+    ensures { Adds result here.now (Instr.Serial (Serial.LoadElement (place_at here.now array))) draft.old draft.new }
 {
     let place = here.tables.place(array);
-    draft.put(here.at.line, Instr::LoadElement(place))
+    draft.put(here.at.line, Instr::Serial(Serial::LoadElement(place)))
 }
 
 /// Stores the value on top in a variable; `keeps` says whether it is left.
@@ -38,10 +37,10 @@ pub(crate) fn store(
     variable: Variable,
     keeps: bool,
 ) -> AllocResult<()>
-    ensures { Adds result here.now (Store (place_at here.now variable) keeps) draft.old draft.new }
+    ensures { Adds result here.now (Instr.Serial (Serial.Store (place_at here.now variable) keeps)) draft.old draft.new }
 {
     let place = here.tables.place(variable);
-    draft.put(here.at.line, Instr::Store { place, keeps })
+    draft.put(here.at.line, Instr::Serial(Serial::Store { place, keeps }))
 }
 
 /// What stands behind the operand of a unary operator (C17 6.5.3.3).
@@ -57,7 +56,7 @@ pub(crate) fn unary_end(
         UnaryOperator::Negate => instruction::UnaryOperator::Negate,
         UnaryOperator::Not => instruction::UnaryOperator::Not,
     };
-    draft.put(here.at.line, Instr::Unary(operator))
+    draft.put(here.at.line, Instr::Serial(Serial::Unary(operator)))
 }
 
 /// Jumps to `otherwise` where the value on top is 0, and pushes 1 and jumps to `over` where it is not.
@@ -70,7 +69,7 @@ pub(crate) fn one_unless_zero(
     ensures { OnOk result (PutsAll line (one_unless_zero otherwise over) draft.old draft.new) }
 {
     draft.put_jump(line, Jump::IfZero, otherwise)?;
-    draft.put(line, Instr::Constant(1))?;
+    draft.put(line, Instr::Serial(Serial::Constant(1)))?;
     draft.put_jump(line, Jump::Always, over)
 }
 
@@ -84,7 +83,7 @@ pub(crate) fn truth(draft: &mut Draft, line: u32, otherwise: usize, over: usize)
 {
     one_unless_zero(draft, line, otherwise, over)?;
     draft.define(otherwise);
-    draft.put(line, Instr::Constant(0))?;
+    draft.put(line, Instr::Serial(Serial::Constant(0)))?;
     draft.define(over);
     Ok(())
 }
@@ -101,10 +100,10 @@ pub(crate) fn step(
 {
     let place = here.tables.place(variable);
     let stepped = [
-        Instr::Load(place),
-        Instr::Constant(1),
-        Instr::Binary(step_of(operator)),
-        Instr::Store { place, keeps },
+        Instr::Serial(Serial::Load(place)),
+        Instr::Serial(Serial::Constant(1)),
+        Instr::Serial(Serial::Binary(step_of(operator))),
+        Instr::Serial(Serial::Store { place, keeps }),
     ];
     draft.put_all(here.at.line, &stepped)
 }
@@ -122,11 +121,11 @@ pub(crate) fn step_element(
 {
     let place = here.tables.place(array);
     let stepped = [
-        Instr::Duplicate,
-        Instr::LoadElement(place),
-        Instr::Constant(1),
-        Instr::Binary(step_of(operator)),
-        Instr::StoreElement { place, keeps },
+        Instr::Serial(Serial::Duplicate),
+        Instr::Serial(Serial::LoadElement(place)),
+        Instr::Serial(Serial::Constant(1)),
+        Instr::Serial(Serial::Binary(step_of(operator))),
+        Instr::Serial(Serial::StoreElement { place, keeps }),
     ];
     draft.put_all(here.at.line, &stepped)
 }
@@ -135,7 +134,10 @@ pub(crate) fn step_element(
 fn step_back(draft: &mut Draft, here: &Here<'_>, operator: PostfixOperator) -> AllocResult<()>
     ensures { Appends result here.now stepped_back (inverse_step_of operator) draft.old draft.new }
 {
-    let back = [Instr::Constant(1), Instr::Binary(inverse_step_of(operator))];
+    let back = [
+        Instr::Serial(Serial::Constant(1)),
+        Instr::Serial(Serial::Binary(inverse_step_of(operator))),
+    ];
     draft.put_all(here.at.line, &back)
 }
 

@@ -9,7 +9,7 @@ use crate::draft::Draft;
 use crate::expression::{assign, assign_element, assigned, call, value, values};
 use crate::single::{step, step_element};
 use crate::spot::Here;
-use om_code::Instr;
+use om_code::{Instr, Serial};
 use om_scope_tree::ResolvedExpression;
 use om_seq::AllocResult;
 
@@ -51,7 +51,7 @@ pub fn effect(draft: &mut Draft, here: &Here<'_>, e: &ResolvedExpression) -> All
         }
         ResolvedExpression::Call { function, values } => {
             call(draft, here, *function, values.as_slice())?;
-            draft.put(here.at.line, Instr::Pop)
+            draft.put(here.at.line, Instr::Serial(Serial::Pop))
         }
         ResolvedExpression::Constant(_)
         | ResolvedExpression::Variable(_)
@@ -70,7 +70,7 @@ fn popped(draft: &mut Draft, here: &Here<'_>, e: &ResolvedExpression) -> AllocRe
     ensures { Appends result here.now popped (view.expression e.now) draft.old draft.new }
 {
     value(draft, here, e)?;
-    draft.put(here.at.line, Instr::Pop)
+    draft.put(here.at.line, Instr::Serial(Serial::Pop))
 }
 
 // Writes the values of a `printf`, and what prints them by its format (C17 7.21.6.3).
@@ -86,5 +86,5 @@ fn print(
     let text = here.tables.format_number(format);
     values(draft, here, arguments)?;
     let values = arguments.len() as u16;
-    draft.put(here.at.line, Instr::Print { text, values })
+    draft.put(here.at.line, Instr::Serial(Serial::Print { text, values }))
 }

@@ -8,15 +8,16 @@ use Rattle.om_code.specs.declared.frame.Operand.{Operand}
 use Rattle.om_code.specs.declared.instruction.BinaryOperator as machine
 use Rattle.om_code.specs.declared.instruction.Instr.{Instr}
 use Rattle.om_code.specs.declared.instruction.Instr.TheVariants as i
+use Rattle.om_code.specs.declared.instruction.Serial.TheVariants as serials
 use Rattle.om_code.specs.declared.instruction.Place.{Place}
 use Rattle.om_code.specs.declared.instruction.Place.TheVariants as place
 use Rattle.om_code.specs.declared.instruction.UnaryOperator as unary
 use Rattle.om_code.specs.declared.raw.Raw.{Raw}
 use Rattle.om_code.specs.declared.raw.Slot.{Slot}
-use Rattle.om_code.specs.declared.serial.Touch.TheVariants.{Reads, Writes}
+use Rattle.om_code.specs.Frames.{Reads, Writes}
 use Rattle.om_code.specs.Arithmetic.{operate, operate_on_one}
 use Rattle.om_code.specs.Frames as frames
-use Rattle.om_code.specs.Frames.{FrameTurn, Faulted, act, acted, turned, decided, gives, loaded, stored, kept, reads}
+use Rattle.om_code.specs.Frames.{FrameTurn, Faulted, act_at, acted, turned, decided, gives, loaded, stored, kept, reads}
 use Rattle.om_code.specs.Frames.{writes, cells_in, index_in}
 use Rattle.om_lower_rules.specs.Meaning.{load_element, store_element}
 use Rattle.om_lower_rules.specs.Running.{frame, with_int}
@@ -36,10 +37,10 @@ Dropped t q s (Faulty f w) = (p : ℕ) × (r : List Operand) × (t ≡ Faulted f
 module _ (raw : Raw) (slots : List Slot) where
   -- the turn of an instruction
   abbrev pub turn_on : Instr → ℕ → List Operand → World → FrameTurn
-  turn_on x p s w = acted raw (frame p s w) (act raw slots x s)
+  turn_on x p s w = acted raw (frame p s w) (act_at raw slots x s)
 
   pub unary_acts : (o : unary.UnaryOperator) (p : ℕ) (v : ℤ) (s : List Operand) (w : World)
-      → Pushed (turn_on (i.Unary o) p (with_int v s) w) (p + 1) s (result (operate_on_one o v) w)
+      → Pushed (turn_on (i.Serial (serials.Unary o)) p (with_int v s) w) (p + 1) s (result (operate_on_one o v) w)
   unary_acts o p v s w = given (operate_on_one o v)
     where
       given : (r : Result ℤ Fault) → Pushed (acted raw (frame p (with_int v s) w) (decided (gives 1 r))) (p + 1) s
@@ -48,7 +49,7 @@ module _ (raw : Raw) (slots : List Slot) where
       given (Err f) = (p, with_int v s, refl)
 
   pub binary_acts : (o : machine.BinaryOperator) (p : ℕ) (x y : ℤ) (s : List Operand) (w : World)
-      → Pushed (turn_on (i.Binary o) p (with_int y (with_int x s)) w) (p + 1) s (result (operate o x y) w)
+      → Pushed (turn_on (i.Serial (serials.Binary o)) p (with_int y (with_int x s)) w) (p + 1) s (result (operate o x y) w)
   binary_acts o p x y s w = given (operate o x y)
     where
       given : (r : Result ℤ Fault) → Pushed (acted raw (frame p (with_int y (with_int x s)) w)
@@ -76,7 +77,7 @@ module _ (raw : Raw) (slots : List Slot) where
       held_there cell.Unset = (p, s, refl)
       held_there cell.Dead = (p, s, refl)
 
-  pub load_acts : (at : Place) (p : ℕ) (s : List Operand) (w : World) → Pushed (turn_on (i.Load at) p s w) (p + 1) s
+  pub load_acts : (at : Place) (p : ℕ) (s : List Operand) (w : World) → Pushed (turn_on (i.Serial (serials.Load at)) p s w) (p + 1) s
       (load at 0 w)
   load_acts at p s w = loads at 0 p s w
 
@@ -99,7 +100,7 @@ module _ (raw : Raw) (slots : List Slot) where
       held_there cell.Dead = (p, with_int n s, refl)
 
   pub load_element_acts : (at : Place) (p : ℕ) (n : ℤ) (s : List Operand) (w : World)
-      → Pushed (turn_on (i.LoadElement at) p (with_int n s) w) (p + 1) s (load_element at (cells_in raw slots at) n w)
+      → Pushed (turn_on (i.Serial (serials.LoadElement at)) p (with_int n s) w) (p + 1) s (load_element at (cells_in raw slots at) n w)
   load_element_acts at p n s w = at_place (index_in (cells_in raw slots at) n)
     where
       at_place : (o : Option ℕ)
@@ -156,16 +157,16 @@ module _ (raw : Raw) (slots : List Slot) where
       held_there cell.Dead d = d
 
   pub store_keeps : (at : Place) (p : ℕ) (v : ℤ) (s : List Operand) (w : World)
-      → Pushed (turn_on (i.Store at true) p (with_int v s) w) (p + 1) s (store at 0 v w)
+      → Pushed (turn_on (i.Serial (serials.Store at true)) p (with_int v s) w) (p + 1) s (store at 0 v w)
   store_keeps at p v s w = pushed_of _ (p + 1) v s at 0 w (stores at 0 0 p (p + 1) None v (with_int v s)
       (with_int v s) w refl refl)
 
   pub store_drops : (at : Place) (p : ℕ) (v : ℤ) (s : List Operand) (w : World)
-      → Dropped (turn_on (i.Store at false) p (with_int v s) w) (p + 1) s (store at 0 v w)
+      → Dropped (turn_on (i.Serial (serials.Store at false)) p (with_int v s) w) (p + 1) s (store at 0 v w)
   store_drops at p v s w = stores at 1 0 p (p + 1) None v (with_int v s) s w refl refl
 
   pub store_element_keeps : (at : Place) (p : ℕ) (n v : ℤ) (s : List Operand) (w : World)
-      → Pushed (turn_on (i.StoreElement at true) p (with_int v (with_int n s)) w) (p + 1) s
+      → Pushed (turn_on (i.Serial (serials.StoreElement at true)) p (with_int v (with_int n s)) w) (p + 1) s
       (store_element at (cells_in raw slots at) n v w)
   store_element_keeps at p n v s w = at_place (index_in (cells_in raw slots at) n)
     where
@@ -177,7 +178,7 @@ module _ (raw : Raw) (slots : List Slot) where
           (with_int v (with_int n s)) (with_int v s) w refl refl)
 
   pub store_element_drops : (at : Place) (p : ℕ) (n v : ℤ) (s : List Operand) (w : World)
-      → Dropped (turn_on (i.StoreElement at false) p (with_int v (with_int n s)) w) (p + 1) s
+      → Dropped (turn_on (i.Serial (serials.StoreElement at false)) p (with_int v (with_int n s)) w) (p + 1) s
       (store_element at (cells_in raw slots at) n v w)
   store_element_drops at p n v s w = at_place (index_in (cells_in raw slots at) n)
     where
@@ -187,7 +188,7 @@ module _ (raw : Raw) (slots : List Slot) where
       at_place None = (p, with_int v (with_int n s), refl)
       at_place (Some k) = stores at 2 k p (p + 1) (kept false v) v (with_int v (with_int n s)) s w refl refl
 
-  pub clear_acts : (slot p : ℕ) (s : List Operand) (w : World) → turn_on (i.Clear slot) p s w
+  pub clear_acts : (slot p : ℕ) (s : List Operand) (w : World) → turn_on (i.Serial (serials.Clear slot)) p s w
       ≡ frames.Onward (frame (p + 1) s (clear slot w))
   unfolding clear
   clear_acts slot p s w = refl

@@ -5,6 +5,7 @@ use Rattle.std.specs.Prelude.{All, IsSomeAnd, slice_get}
 use Rattle.std.specs.List.{flat_map}
 use Rattle.std.proofs.lemmas.Bool.{cases_lt}
 use Rattle.om_code.specs.declared.instruction.Instr.TheVariants as i
+use Rattle.om_code.specs.declared.instruction.Function.TheVariants as calls
 use Rattle.om_code.specs.declared.raw.Body.{Body}
 use Rattle.om_code.specs.declared.raw.Raw.{Raw}
 use Rattle.om_code.specs.Frames as frames
@@ -132,9 +133,9 @@ module _ (raw : Raw) (body : Body) where
   -- the end of a function
   closes : (is_main : Bool) (m l : ℕ) (u : World) → steps.Has raw body m l (last_instruction is_main false)
       → Ends raw body (frame m [] u) (ended is_main None) u
-  closes true m l u has = steps.stop raw body m l (i.Finish false) [] u u (ended true None) (frame m [] u) has refl
+  closes true m l u has = steps.stop raw body m l (i.Function (calls.Finish false)) [] u u (ended true None) (frame m [] u) has refl
       refl refl
-  closes false m l u has = steps.stop raw body m l i.ReturnNothing [] u u (ended false None) (frame m [] u) has refl
+  closes false m l u has = steps.stop raw body m l (i.Function calls.ReturnNothing) [] u u (ended false None) (frame m [] u) has refl
       refl refl
 
 -- the formats of a function are among those of its program

@@ -8,6 +8,10 @@ use Rattle.std.proofs.lemmas.List.Elements.{All-cons}
 use Rattle.std.proofs.lemmas.Option.{get_or_from_slice_get, slice_get_within}
 use Rattle.om_code.specs.declared.instruction.Instr.{Instr}
 use Rattle.om_code.specs.declared.instruction.Instr.TheVariants as i
+use Rattle.om_code.specs.declared.instruction.Serial.TheVariants as serials
+use Rattle.om_code.specs.declared.instruction.Team.TheVariants as teams
+use Rattle.om_code.specs.declared.instruction.Sharing.TheVariants as sharings
+use Rattle.om_code.specs.declared.instruction.Task.TheVariants as taskings
 use Rattle.om_code.specs.declared.raw.Body.{Body}
 use Rattle.om_code.specs.declared.raw.Line.{Line}
 use Rattle.om_code.specs.declared.raw.Raw.{Raw}
@@ -37,7 +41,7 @@ use Rattle.om_lower_rules.proofs.StatementLevels as heads
 -- PICK goes to one of its places
 level_pick : {picks : List (List ℕ)} {code : List Line} {N G : List ℕ → Type 0} {R : Type 0} {p q h out l list : ℕ}
     (places : List ℕ)
-    → (slice_get code p ≡ Some (record { instruction = i.Pick list; line = l })) × R
+    → (slice_get code p ≡ Some (record { instruction = i.Sharing (sharings.Pick list); line = l })) × R
     → slice_get picks list ≡ Some places
     → ((hs : List ℕ) → N hs → Each (λ to. IsAt hs to h) places)
     → (R → Levels picks code N G (p + 1) q h out) → Levels picks code N G p q h out
@@ -162,7 +166,7 @@ module _ (at : Site) where
     statement_levels (Construct first (constructs.Critical name) clauses s) n j h p q r =
         level_free (heads.critical_levels at first.line name (statement at n s nowhere)
         (λ h p q r. level_more (statement_levels s n nowhere h p q r) (λ hs k. (tt, tt))) h p q r)
-    statement_levels (Construct first constructs.Atomic clauses s) n j h p q r = level_free
+    statement_levels (Construct first (constructs.Atomic access) clauses s) n j h p q r = level_free
         (heads.assignment_levels at first.line s h p q r)
     statement_levels (Construct first constructs.Taskgroup clauses s) n j h p q r =
         level_free (heads.group_levels at first.line (statement at n s nowhere)
@@ -183,7 +187,7 @@ module _ (at : Site) where
     parts_levels NoParts n l grab places h p q r = no_place_levels grab places h p q r
     parts_levels (Part items rest) n l grab places h p q r =
         with_place_levels places
-        (λ x xs. here x ▸ part (statements at n items nowhere) ▸ ins at l (i.Jump grab) ▸ parts at
+        (λ x xs. here x ▸ part (statements at n items nowhere) ▸ ins at l (i.Serial (serials.Jump grab)) ▸ parts at
         (behind_all n items) l grab rest xs)
         (λ x xs h p q r.
         level_as
@@ -328,7 +332,7 @@ body_levels at n f FunctionBody r =
     r.2.0 r.2.1 (last_pops at.is_main) (last_ways at.picks r.0 at.is_main)
 body_levels at n f (RegionBody first kinds.Parallel clauses captures s) r =
     let b = r.1.2.2 in
-    finished at.picks at.code (b.0 + 1) first.line i.Leave
+    finished at.picks at.code (b.0 + 1) first.line (i.Team teams.Leave)
     (level_next {R = Unit {0}} {next = 0} 0 (r.0, tt) refl (omega arith) (omega arith) (λ u.
     level_join (heads.reduction_starts_levels at first.line clauses 0 1 r.1.0 r.1.1)
     (level_join (level_more (statement_levels at s n nowhere 0 r.1.0 r.1.2.0 r.1.2.1) (λ hs k. (tt, tt)))
@@ -336,7 +340,7 @@ body_levels at n f (RegionBody first kinds.Parallel clauses captures s) r =
     (level_next {R = Unit {0}} {next = 0} 0 (b.2.0, tt) refl (omega arith) (omega arith) (λ u. level_end refl))))))
     b.2.1.0 b.2.1.1 refl refl
 body_levels at n f (RegionBody first kinds.Task clauses captures s) r =
-    finished at.picks at.code r.0 first.line i.TaskEnd
+    finished at.picks at.code r.0 first.line (i.Task taskings.TaskEnd)
     (level_more (statement_levels at s n nowhere 0 0 r.0 r.1) (λ hs k. (tt, tt)))
     r.2.0 r.2.1 refl refl
 

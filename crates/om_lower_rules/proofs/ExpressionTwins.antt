@@ -2,6 +2,7 @@
 use Rattle.std.proofs.Common.{◌≡◌, ℕ, ◌+◌, ℤ, pos, Bool, true, false, List, Option, Some, None, ap}
 use Rattle.om_code.specs.declared.instruction.BinaryOperator as machine
 use Rattle.om_code.specs.declared.instruction.Instr.TheVariants as i
+use Rattle.om_code.specs.declared.instruction.Serial.TheVariants as serials
 use Rattle.om_code.specs.declared.raw.Line.{Line}
 use Rattle.om_scope_tree.specs.declared.resolved.UnaryOperator.{UnaryOperator}
 use Rattle.om_scope_tree.specs.declared.resolved.UnaryOperator.TheVariants as unaries
@@ -51,24 +52,24 @@ module _ (base : Site) (code code' : List Line) (picks picks' : List (List ℕ))
   binary_twin l Both a b a' b' ha hb p p' q q' r t =
       twin_closed {L = (r.0 ≡ t.0) × (r.1 ≡ t.1)}
       (twin_part r.2 t.2 (ha p p') (λ m m' r t.
-      twin_jump r t tt (λ k. ap i.JumpIfZero k.1.0) (λ r t.
+      twin_jump r t tt (λ k. ap (λ x. i.Serial (serials.JumpIfZero x)) k.1.0) (λ r t.
       twin_part r t (hb (m + 1) (m' + 1)) (λ m m' r t.
-      twin_jump r t tt (λ k. ap i.JumpIfZero k.1.0) (λ r t.
+      twin_jump r t tt (λ k. ap (λ x. i.Serial (serials.JumpIfZero x)) k.1.0) (λ r t.
       twin_next r t tt (λ r t.
-      twin_jump r t tt (λ k. ap i.Jump k.1.1) (λ r t.
+      twin_jump r t tt (λ k. ap (λ x. i.Serial (serials.Jump x)) k.1.1) (λ r t.
       twin_here r t (λ r t. twin_next r t tt (λ r t. twin_here r t twin_end)))))))))
       (λ g. (g.0, g.1.0)) (λ g. tt)
   binary_twin l Either a b a' b' ha hb p p' q q' r t =
       twin_closed {L = (r.0 ≡ t.0) × (r.1 ≡ t.1) × (r.2 ≡ t.2)}
       (twin_part r.3 t.3 (ha p p') (λ m m' r t.
-      twin_jump r t tt (λ k. ap i.JumpIfZero k.1.0) (λ r t.
+      twin_jump r t tt (λ k. ap (λ x. i.Serial (serials.JumpIfZero x)) k.1.0) (λ r t.
       twin_next r t tt (λ r t.
-      twin_jump r t tt (λ k. ap i.Jump k.1.2) (λ r t.
+      twin_jump r t tt (λ k. ap (λ x. i.Serial (serials.Jump x)) k.1.2) (λ r t.
       twin_here r t (λ r t.
       twin_part r t (hb (m + 1 + 1 + 1) (m' + 1 + 1 + 1)) (λ m m' r t.
-      twin_jump r t tt (λ k. ap i.JumpIfZero k.1.1) (λ r t.
+      twin_jump r t tt (λ k. ap (λ x. i.Serial (serials.JumpIfZero x)) k.1.1) (λ r t.
       twin_next r t tt (λ r t.
-      twin_jump r t tt (λ k. ap i.Jump k.1.2) (λ r t.
+      twin_jump r t tt (λ k. ap (λ x. i.Serial (serials.Jump x)) k.1.2) (λ r t.
       twin_here r t (λ r t. twin_next r t tt (λ r t. twin_here r t twin_end))))))))))))
       (λ g. (g.0, g.1.0, g.1.1.0)) (λ g. tt)
   binary_twin l (Plain o) a b a' b' ha hb p p' q q' r t =
@@ -79,9 +80,9 @@ module _ (base : Site) (code code' : List Line) (picks picks' : List (List ℕ))
   conditional_twin l x a b x' a' b' hx ha hb p p' q q' r t =
       twin_closed {L = (r.0 ≡ t.0) × (r.1 ≡ t.1)}
       (twin_part r.2 t.2 (hx p p') (λ m m' r t.
-      twin_jump r t tt (λ k. ap i.JumpIfZero k.1.0) (λ r t.
+      twin_jump r t tt (λ k. ap (λ x. i.Serial (serials.JumpIfZero x)) k.1.0) (λ r t.
       twin_part r t (ha (m + 1) (m' + 1)) (λ m m' r t.
-      twin_jump r t tt (λ k. ap i.Jump k.1.1) (λ r t.
+      twin_jump r t tt (λ k. ap (λ x. i.Serial (serials.Jump x)) k.1.1) (λ r t.
       twin_here r t (λ r t. twin_part r t (hb (m + 1) (m' + 1)) (λ m m' r t. twin_here r t twin_end)))))))
       (λ g. (g.0, g.1.0)) (λ g. tt)
 

@@ -6,6 +6,7 @@ use Rattle.om_code.specs.declared.frame.Operand.{Operand}
 use Rattle.om_code.specs.declared.instruction.BinaryOperator as machine
 use Rattle.om_code.specs.declared.instruction.Instr.{Instr}
 use Rattle.om_code.specs.declared.instruction.Instr.TheVariants as i
+use Rattle.om_code.specs.declared.instruction.Serial.TheVariants as serials
 use Rattle.om_code.specs.declared.instruction.UnaryOperator.TheVariants as unary
 use Rattle.om_code.specs.declared.raw.Body.{Body}
 use Rattle.om_code.specs.declared.raw.Raw.{Raw}
@@ -51,7 +52,7 @@ module _ (raw : Raw) (body : Body) (at : Site) (same : at.code ≡ body.code) wh
   has p {l} {x} e = ap (λ z. slice_get z p) (sym same) ∙ e
 
   pub constant_means : (l : ℕ) (n : ℤ) → Means (constant at l n) (λ w. Got n w)
-  constant_means l n p q s w h = steps.pushes raw body p l q (i.Constant n) s s w (Got n w) (has _ h.0) refl h.1
+  constant_means l n p q s w h = steps.pushes raw body p l q (i.Serial (serials.Constant n)) s s w (Got n w) (has _ h.0) refl h.1
 
   same_outcome : (c : Frame) (q : ℕ) (s : List Operand) (r : Outcome) → Gives raw body c q s r → Gives raw body c q
       s (with_value r (λ v w. Got v w))
@@ -63,15 +64,15 @@ module _ (raw : Raw) (body : Body) (at : Site) (same : at.code ≡ body.code) wh
   unary_means l unaries.Plus a f ha p q s w h = same_outcome _ q s (f w) (ha p q s w h)
   unary_means l unaries.Negate a f ha p q s w h =
       steps.gives_then raw body _ h.0 q s s (f w) (λ v u. unary_value unaries.Negate v u) (ha p h.0 s w h.1)
-      (λ v u. steps.pushes raw body h.0 l q (i.Unary unary.Negate) (with_int v s) s u
+      (λ v u. steps.pushes raw body h.0 l q (i.Serial (serials.Unary unary.Negate)) (with_int v s) s u
       (unary_value unaries.Negate v u) (has _ h.2.0)
-      (subst (λ r. Pushed (turn_on raw body.slots (i.Unary unary.Negate) h.0 (with_int v s) u) (h.0 + 1) s
+      (subst (λ r. Pushed (turn_on raw body.slots (i.Serial (serials.Unary unary.Negate)) h.0 (with_int v s) u) (h.0 + 1) s
       (result r u)) (sym (unaries_agree v).0) (unary_acts raw body.slots unary.Negate h.0 v s u)) h.2.1)
   unary_means l unaries.Not a f ha p q s w h =
       steps.gives_then raw body _ h.0 q s s (f w) (λ v u. unary_value unaries.Not v u) (ha p h.0 s w h.1)
-      (λ v u. steps.pushes raw body h.0 l q (i.Unary unary.Not) (with_int v s) s u (unary_value unaries.Not v u)
+      (λ v u. steps.pushes raw body h.0 l q (i.Serial (serials.Unary unary.Not)) (with_int v s) s u (unary_value unaries.Not v u)
       (has _ h.2.0)
-      (subst (λ r. Pushed (turn_on raw body.slots (i.Unary unary.Not) h.0 (with_int v s) u) (h.0 + 1) s
+      (subst (λ r. Pushed (turn_on raw body.slots (i.Serial (serials.Unary unary.Not)) h.0 (with_int v s) u) (h.0 + 1) s
       (result r u)) (sym (unaries_agree v).1) (unary_acts raw body.slots unary.Not h.0 v s u)) h.2.1)
 
   -- ---- `&&`, `||` and `? :`
@@ -79,8 +80,8 @@ module _ (raw : Raw) (body : Body) (at : Site) (same : at.code ≡ body.code) wh
   -- 1 unless the operand is 0
   abbrev TruthRow : ℕ → ℕ → ℕ → Row
   TruthRow l f e =
-      ins at l (i.JumpIfZero f) ▸ ins at l (i.Constant (pos 1)) ▸ ins at l (i.Jump e) ▸ here f ▸ ins at l
-      (i.Constant (pos 0)) ▸ here e ▸ end
+      ins at l (i.Serial (serials.JumpIfZero f)) ▸ ins at l (i.Serial (serials.Constant (pos 1))) ▸ ins at l (i.Serial (serials.Jump e)) ▸ here f ▸ ins at l
+      (i.Serial (serials.Constant (pos 0))) ▸ here e ▸ end
 
   truth_at : (b : Bool) (l f e p q : ℕ) (c : Frame) (s : List Operand) (w : World) → TruthRow l f e p q
       → Leads raw body c (frame (if b then f else p + 1) s w) → Leads raw body c
@@ -88,11 +89,11 @@ module _ (raw : Raw) (body : Body) (at : Site) (same : at.code ≡ body.code) wh
   truth_at true l f e p q c s w h go =
       steps.leads_on raw body c _ _ go
       (steps.leads_from raw body f _ s w _ h.1.1.1.0
-      (steps.step raw body _ l (i.Constant (pos 0)) s w _ (has _ h.1.1.1.1.0)
+      (steps.step raw body _ l (i.Serial (serials.Constant (pos 0))) s w _ (has _ h.1.1.1.1.0)
       (ap (λ n. frames.Onward (frame n (with_int (pos 0) s) w)) h.1.1.1.1.1.1)))
   truth_at false l f e p q c s w h go =
       steps.leads_on raw body c _ _ go
-      (steps.leads_on raw body _ _ _ (steps.step raw body (p + 1) l (i.Constant (pos 1)) s w _ (has _ h.1.0) refl)
+      (steps.leads_on raw body _ _ _ (steps.step raw body (p + 1) l (i.Serial (serials.Constant (pos 1))) s w _ (has _ h.1.0) refl)
       (steps.jump raw body _ l e q _ w (has _ h.1.1.0) (h.1.1.1.1.1.0 ∙ h.1.1.1.1.1.1)))
 
   -- a value, and then its truth
@@ -112,7 +113,7 @@ module _ (raw : Raw) (body : Body) (at : Site) (same : at.code ≡ body.code) wh
 
   either_at : (b : Bool) (l z f e m q : ℕ) (s : List Operand) (w : World) (c : Frame) (n : ℕ) (r : Outcome)
       → TruthRow l f e n q
-      → steps.Has raw body (m + 1) l (i.Constant (pos 1)) → steps.Has raw body (m + 1 + 1) l (i.Jump e) → z
+      → steps.Has raw body (m + 1) l (i.Serial (serials.Constant (pos 1))) → steps.Has raw body (m + 1 + 1) l (i.Serial (serials.Jump e)) → z
       ≡ m + 1 + 1 + 1
       → Leads raw body c (frame (if b then z else m + 1) s w) → Gives raw body (frame (m + 1 + 1 + 1) s w) n s r
       → Gives raw body c q s (if b then with_value r (λ y t. Got (truth_of y) t) else Got (pos 1) w)
@@ -122,12 +123,12 @@ module _ (raw : Raw) (body : Body) (at : Site) (same : at.code ≡ body.code) wh
       (truth_run l f e n q _ s r h g))
   either_at false l z f e m q s w c n r h one over at_z go g =
       steps.leads_on raw body c _ _ go
-      (steps.leads_on raw body _ _ _ (steps.step raw body (m + 1) l (i.Constant (pos 1)) s w _ one refl)
+      (steps.leads_on raw body _ _ _ (steps.step raw body (m + 1) l (i.Serial (serials.Constant (pos 1))) s w _ one refl)
       (steps.jump raw body _ l e q _ w over (h.1.1.1.1.1.0 ∙ h.1.1.1.1.1.1)))
 
   choice_at : (b : Bool) (l f e m n q : ℕ) (s : List Operand) (w : World) (c : Frame) (ra rb : Outcome)
       → Leads raw body c (frame (if b then f else m + 1) s w) → Gives raw body (frame (m + 1) s w) n s ra
-      → steps.Has raw body n l (i.Jump e) → e ≡ q
+      → steps.Has raw body n l (i.Serial (serials.Jump e)) → e ≡ q
       → f ≡ n + 1 → Gives raw body (frame (n + 1) s w) q s rb → Gives raw body c q s (if b then rb else ra)
   choice_at true l f e m n q s w c ra rb go ga over ee fe gb = steps.leads_gives raw body c _ q s rb go
       (steps.gives_from raw body f _ q s s w rb fe gb)
@@ -153,7 +154,7 @@ module _ (raw : Raw) (body : Body) (at : Site) (same : at.code ≡ body.code) wh
       (ha p h.0 s w h.1)
       (λ x u. steps.gives_then raw body _ h.2.0 q (with_int x s) s (g u) (λ y t. result (operate o x y) t)
       (hb h.0 h.2.0 (with_int x s) u h.2.1)
-      (λ y t. steps.pushes raw body _ l q (i.Binary o) (with_int y (with_int x s)) s t (result (operate o x y) t)
+      (λ y t. steps.pushes raw body _ l q (i.Serial (serials.Binary o)) (with_int y (with_int x s)) s t (result (operate o x y) t)
       (has _ h.2.2.0) (binary_acts raw body.slots o h.2.0 x y s t) h.2.2.1))
 
   conditional_means : (l : ℕ) (c a b : Row) (fc fa fb : World → Outcome) → Means c fc → Means a fa → Means b fb
@@ -172,20 +173,20 @@ module _ (raw : Raw) (body : Body) (at : Site) (same : at.code ≡ body.code) wh
       → Means (assigned at l true x o e) (λ w. means.assigned (place at x) (option_map operate o) f w)
   assigned_means l x None e f he p q s w h =
       steps.gives_then raw body _ h.0 q s s (f w) (λ v u. store (place at x) 0 v u) (he p h.0 s w h.1)
-      (λ v u. steps.pushes raw body _ l q (i.Store (place at x) true) (with_int v s) s u (store (place at x) 0 v u)
+      (λ v u. steps.pushes raw body _ l q (i.Serial (serials.Store (place at x) true)) (with_int v s) s u (store (place at x) 0 v u)
       (has _ h.2.0) (store_keeps raw body.slots (place at x) h.0 v s u) h.2.1)
   assigned_means l x (Some o) e f he p q s w h =
       steps.gives_then raw body _ (p + 1) q s s (load (place at x) 0 w)
       (λ y u. with_value (f u) (λ z t. with_value (result (operate o y z) t) (λ v r. store (place at x) 0 v r)))
-      (steps.pushes raw body p l (p + 1) (i.Load (place at x)) s s w (load (place at x) 0 w) (has _ h.0)
+      (steps.pushes raw body p l (p + 1) (i.Serial (serials.Load (place at x))) s s w (load (place at x) 0 w) (has _ h.0)
       (load_acts raw body.slots (place at x) p s w) refl)
       (λ y u. steps.gives_then raw body _ h.1.0 q (with_int y s) s (f u)
       (λ z t. with_value (result (operate o y z) t) (λ v r. store (place at x) 0 v r))
       (he (p + 1) h.1.0 (with_int y s) u h.1.1)
       (λ z t. steps.gives_then raw body _ (h.1.0 + 1) q s s (result (operate o y z) t) (λ v r. store (place at x) 0 v r)
-      (steps.pushes raw body h.1.0 l (h.1.0 + 1) (i.Binary o) (with_int z (with_int y s)) s t
+      (steps.pushes raw body h.1.0 l (h.1.0 + 1) (i.Serial (serials.Binary o)) (with_int z (with_int y s)) s t
       (result (operate o y z) t) (has _ h.1.2.0) (binary_acts raw body.slots o h.1.0 y z s t) refl)
-      (λ v r. steps.pushes raw body _ l q (i.Store (place at x) true) (with_int v s) s r (store (place at x) 0 v r)
+      (λ v r. steps.pushes raw body _ l q (i.Serial (serials.Store (place at x) true)) (with_int v s) s r (store (place at x) 0 v r)
       (has _ h.1.2.1.0)
       (store_keeps raw body.slots (place at x) (h.1.0 + 1) v s r) h.1.2.1.1)))
 
@@ -194,20 +195,20 @@ module _ (raw : Raw) (body : Body) (at : Site) (same : at.code ≡ body.code) wh
       → Spends (assigned at l false x o e) (λ w. means.assigned (place at x) (option_map operate o) f w)
   assigned_spends l x None e f he p q s w h =
       steps.drops_then raw body _ h.0 q s s (f w) (λ v u. store (place at x) 0 v u) (he p h.0 s w h.1)
-      (λ v u. steps.drops raw body _ l q (i.Store (place at x) false) (with_int v s) s u (store (place at x) 0 v u)
+      (λ v u. steps.drops raw body _ l q (i.Serial (serials.Store (place at x) false)) (with_int v s) s u (store (place at x) 0 v u)
       (has _ h.2.0) (store_drops raw body.slots (place at x) h.0 v s u) h.2.1)
   assigned_spends l x (Some o) e f he p q s w h =
       steps.drops_then raw body _ (p + 1) q s s (load (place at x) 0 w)
       (λ y u. with_value (f u) (λ z t. with_value (result (operate o y z) t) (λ v r. store (place at x) 0 v r)))
-      (steps.pushes raw body p l (p + 1) (i.Load (place at x)) s s w (load (place at x) 0 w) (has _ h.0)
+      (steps.pushes raw body p l (p + 1) (i.Serial (serials.Load (place at x))) s s w (load (place at x) 0 w) (has _ h.0)
       (load_acts raw body.slots (place at x) p s w) refl)
       (λ y u. steps.drops_then raw body _ h.1.0 q (with_int y s) s (f u)
       (λ z t. with_value (result (operate o y z) t) (λ v r. store (place at x) 0 v r))
       (he (p + 1) h.1.0 (with_int y s) u h.1.1)
       (λ z t. steps.drops_then raw body _ (h.1.0 + 1) q s s (result (operate o y z) t) (λ v r. store (place at x) 0 v r)
-      (steps.pushes raw body h.1.0 l (h.1.0 + 1) (i.Binary o) (with_int z (with_int y s)) s t
+      (steps.pushes raw body h.1.0 l (h.1.0 + 1) (i.Serial (serials.Binary o)) (with_int z (with_int y s)) s t
       (result (operate o y z) t) (has _ h.1.2.0) (binary_acts raw body.slots o h.1.0 y z s t) refl)
-      (λ v r. steps.drops raw body _ l q (i.Store (place at x) false) (with_int v s) s r (store (place at x) 0 v r)
+      (λ v r. steps.drops raw body _ l q (i.Serial (serials.Store (place at x) false)) (with_int v s) s r (store (place at x) 0 v r)
       (has _ h.1.2.1.0)
       (store_drops raw body.slots (place at x) (h.1.0 + 1) v s r) h.1.2.1.1)))
 
@@ -228,18 +229,18 @@ module _ (raw : Raw) (body : Body) (at : Site) (same : at.code ≡ body.code) wh
       (λ n u. with_value (f u) (λ v t. store_element (place at a) (Cells a) n v t)) (hj p h.0 s w h.1)
       (λ n u. steps.gives_then raw body _ h.2.0 q (with_int n s) s (f u) (λ v t. store_element (place at a)
       (Cells a) n v t) (he h.0 h.2.0 (with_int n s) u h.2.1)
-      (λ v t. steps.pushes raw body _ l q (i.StoreElement (place at a) true) (with_int v (with_int n s)) s t
+      (λ v t. steps.pushes raw body _ l q (i.Serial (serials.StoreElement (place at a) true)) (with_int v (with_int n s)) s t
       (store_element (place at a) (Cells a) n v t) (has _ h.2.2.0)
       (store_element_keeps raw body.slots (place at a) h.2.0 n v s t) h.2.2.1))
   element_assigned_means l a j (Some o) e fj f hj he p q s w h =
       let b = h.2.1.1 in
       steps.gives_then raw body _ h.0 q s s (fj w) (compound a o f) (hj p h.0 s w h.1)
-      (λ n u. steps.leads_gives raw body _ _ q s (compound a o f n u) (steps.step raw body h.0 l i.Duplicate
+      (λ n u. steps.leads_gives raw body _ _ q s (compound a o f n u) (steps.step raw body h.0 l (i.Serial serials.Duplicate)
       (with_int n s) u _ (has _ h.2.0) refl)
       (steps.gives_then raw body _ (h.0 + 1 + 1) q (with_int n s) s (load_element (place at a) (Cells a) n u)
       (λ y t. with_value (f t) (λ z r. with_value (result (operate o y z) r) (λ v d. store_element (place at a)
       (Cells a) n v d)))
-      (steps.pushes raw body _ l (h.0 + 1 + 1) (i.LoadElement (place at a)) (with_int n (with_int n s))
+      (steps.pushes raw body _ l (h.0 + 1 + 1) (i.Serial (serials.LoadElement (place at a))) (with_int n (with_int n s))
       (with_int n s) u (load_element (place at a) (Cells a) n u) (has _ h.2.1.0)
       (load_element_acts raw body.slots (place at a) (h.0 + 1) n (with_int n s) u) refl)
       (λ y t. steps.gives_then raw body _ b.0 q (with_int y (with_int n s)) s (f t)
@@ -247,10 +248,10 @@ module _ (raw : Raw) (body : Body) (at : Site) (same : at.code ≡ body.code) wh
       (he (h.0 + 1 + 1) b.0 (with_int y (with_int n s)) t b.1)
       (λ z r. steps.gives_then raw body _ (b.0 + 1) q (with_int n s) s (result (operate o y z) r)
       (λ v d. store_element (place at a) (Cells a) n v d)
-      (steps.pushes raw body _ l (b.0 + 1) (i.Binary o) (with_int z (with_int y (with_int n s))) (with_int n s) r
+      (steps.pushes raw body _ l (b.0 + 1) (i.Serial (serials.Binary o)) (with_int z (with_int y (with_int n s))) (with_int n s) r
       (result (operate o y z) r) (has _ b.2.0)
       (binary_acts raw body.slots o b.0 y z (with_int n s) r) refl)
-      (λ v d. steps.pushes raw body _ l q (i.StoreElement (place at a) true) (with_int v (with_int n s)) s d
+      (λ v d. steps.pushes raw body _ l q (i.Serial (serials.StoreElement (place at a) true)) (with_int v (with_int n s)) s d
       (store_element (place at a) (Cells a) n v d) (has _ b.2.1.0)
       (store_element_keeps raw body.slots (place at a) (b.0 + 1) n v s d) b.2.1.1)))))
 
@@ -262,18 +263,18 @@ module _ (raw : Raw) (body : Body) (at : Site) (same : at.code ≡ body.code) wh
       (λ n u. with_value (f u) (λ v t. store_element (place at a) (Cells a) n v t)) (hj p h.0 s w h.1)
       (λ n u. steps.drops_then raw body _ h.2.0 q (with_int n s) s (f u) (λ v t. store_element (place at a)
       (Cells a) n v t) (he h.0 h.2.0 (with_int n s) u h.2.1)
-      (λ v t. steps.drops raw body _ l q (i.StoreElement (place at a) false) (with_int v (with_int n s)) s t
+      (λ v t. steps.drops raw body _ l q (i.Serial (serials.StoreElement (place at a) false)) (with_int v (with_int n s)) s t
       (store_element (place at a) (Cells a) n v t) (has _ h.2.2.0)
       (store_element_drops raw body.slots (place at a) h.2.0 n v s t) h.2.2.1))
   element_assigned_spends l a j (Some o) e fj f hj he p q s w h =
       let b = h.2.1.1 in
       steps.drops_then raw body _ h.0 q s s (fj w) (compound a o f) (hj p h.0 s w h.1)
-      (λ n u. steps.leads_drops raw body _ _ q s (compound a o f n u) (steps.step raw body h.0 l i.Duplicate
+      (λ n u. steps.leads_drops raw body _ _ q s (compound a o f n u) (steps.step raw body h.0 l (i.Serial serials.Duplicate)
       (with_int n s) u _ (has _ h.2.0) refl)
       (steps.drops_then raw body _ (h.0 + 1 + 1) q (with_int n s) s (load_element (place at a) (Cells a) n u)
       (λ y t. with_value (f t) (λ z r. with_value (result (operate o y z) r) (λ v d. store_element (place at a)
       (Cells a) n v d)))
-      (steps.pushes raw body _ l (h.0 + 1 + 1) (i.LoadElement (place at a)) (with_int n (with_int n s))
+      (steps.pushes raw body _ l (h.0 + 1 + 1) (i.Serial (serials.LoadElement (place at a))) (with_int n (with_int n s))
       (with_int n s) u (load_element (place at a) (Cells a) n u) (has _ h.2.1.0)
       (load_element_acts raw body.slots (place at a) (h.0 + 1) n (with_int n s) u) refl)
       (λ y t. steps.drops_then raw body _ b.0 q (with_int y (with_int n s)) s (f t)
@@ -281,10 +282,10 @@ module _ (raw : Raw) (body : Body) (at : Site) (same : at.code ≡ body.code) wh
       (he (h.0 + 1 + 1) b.0 (with_int y (with_int n s)) t b.1)
       (λ z r. steps.drops_then raw body _ (b.0 + 1) q (with_int n s) s (result (operate o y z) r)
       (λ v d. store_element (place at a) (Cells a) n v d)
-      (steps.pushes raw body _ l (b.0 + 1) (i.Binary o) (with_int z (with_int y (with_int n s))) (with_int n s) r
+      (steps.pushes raw body _ l (b.0 + 1) (i.Serial (serials.Binary o)) (with_int z (with_int y (with_int n s))) (with_int n s) r
       (result (operate o y z) r) (has _ b.2.0)
       (binary_acts raw body.slots o b.0 y z (with_int n s) r) refl)
-      (λ v d. steps.drops raw body _ l q (i.StoreElement (place at a) false) (with_int v (with_int n s)) s d
+      (λ v d. steps.drops raw body _ l q (i.Serial (serials.StoreElement (place at a) false)) (with_int v (with_int n s)) s d
       (store_element (place at a) (Cells a) n v d) (has _ b.2.1.0)
       (store_element_drops raw body.slots (place at a) (b.0 + 1) n v s d) b.2.1.1)))))
 
@@ -294,8 +295,8 @@ module _ (raw : Raw) (body : Body) (at : Site) (same : at.code ≡ body.code) wh
   stepped_back_means l o a f ha p q s w h =
       steps.gives_then raw body _ h.0 q s s (f w) (λ z u. result (operate o z (pos 1)) u) (ha p h.0 s w h.1)
       (λ z u. steps.leads_gives raw body _ _ q s (result (operate o z (pos 1)) u)
-      (steps.step raw body h.0 l (i.Constant (pos 1)) (with_int z s) u _ (has _ h.2.0) refl)
-      (steps.pushes raw body _ l q (i.Binary o) (with_int (pos 1) (with_int z s)) s u
+      (steps.step raw body h.0 l (i.Serial (serials.Constant (pos 1))) (with_int z s) u _ (has _ h.2.0) refl)
+      (steps.pushes raw body _ l q (i.Serial (serials.Binary o)) (with_int (pos 1) (with_int z s)) s u
       (result (operate o z (pos 1)) u) (has _ h.2.1.0)
       (binary_acts raw body.slots o (h.0 + 1) z (pos 1) s u) h.2.1.1))
 
@@ -303,12 +304,12 @@ module _ (raw : Raw) (body : Body) (at : Site) (same : at.code ≡ body.code) wh
       (λ w. value_of (layout_of raw body at.slots) e w)
   value_means (Constant n) l g p q s w h = constant_means l n p q s w h
   value_means (Variable x) l g p q s w h =
-      steps.pushes raw body p l q (i.Load (place at x)) s s w (load (place at x) 0 w) (has _ h.0)
+      steps.pushes raw body p l q (i.Serial (serials.Load (place at x))) s s w (load (place at x) 0 w) (has _ h.0)
       (load_acts raw body.slots (place at x) p s w) h.1
   value_means (Element a j) l g p q s w h =
       steps.gives_then raw body _ h.0 q s s (value_of (layout_of raw body at.slots) j w)
       (λ n u. load_element (place at a) (Cells a) n u) (value_means j l g p h.0 s w h.1)
-      (λ n u. steps.pushes raw body _ l q (i.LoadElement (place at a)) (with_int n s) s u
+      (λ n u. steps.pushes raw body _ l q (i.Serial (serials.LoadElement (place at a))) (with_int n s) s u
       (load_element (place at a) (Cells a) n u) (has _ h.2.0)
       (load_element_acts raw body.slots (place at a) h.0 n s u) h.2.1)
   value_means (Call f es) l g p q s w h = absurd g

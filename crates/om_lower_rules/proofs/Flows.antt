@@ -4,6 +4,7 @@ use Rattle.std.proofs.Common.{◌∙◌, subst, arith}
 use Rattle.std.specs.Prelude.{if◌then◌else◌}
 use Rattle.om_code.specs.declared.frame.Operand.{Operand}
 use Rattle.om_code.specs.declared.instruction.Instr.TheVariants as i
+use Rattle.om_code.specs.declared.instruction.Serial.TheVariants as serials
 use Rattle.om_code.specs.declared.raw.Body.{Body}
 use Rattle.om_code.specs.declared.raw.Raw.{Raw}
 use Rattle.om_code.specs.Frames.{Frame, FrameTurn}
@@ -132,7 +133,7 @@ module _ (raw : Raw) (body : Body) (is_main : Bool) where
   turn_at false n c m a q jumps s w ro go hz ho = leads_run n c _ q jumps s ro go ho
 
   pub then_jump : (n : ℕ) (c : Frame) (m q : ℕ) (jumps : Jumps) (l g : ℕ) (s : List Operand) (r : Flow)
-      → steps.Has raw body m l (i.Jump g) → g ≡ q
+      → steps.Has raw body m l (i.Serial (serials.Jump g)) → g ≡ q
       → Run n c m jumps s r → Run n c q jumps s r
   then_jump n c m q jumps l g s (flows.Onward w) has e h = comes_on c _ _ h
       (comes _ _ (steps.jump raw body m l g q s w has e))
@@ -144,7 +145,7 @@ module _ (raw : Raw) (body : Body) (is_main : Bool) where
 
   -- a jump that goes back, which is counted
   pub jump_back : (n l from to q : ℕ) (jumps : Jumps) (s : List Operand) (w : World) (r : Flow) → steps.Has raw body
-      from l (i.Jump to)
+      from l (i.Serial (serials.Jump to))
       → Run n (frame to s w) q jumps s r → Run (suc n) (frame from s w) q jumps s r
   jump_back n l from to q jumps s w r has h = leads_run n _ _ q jumps s r (steps.jump raw body from l to to s w has
       refl) h

@@ -3,6 +3,9 @@ use Rattle.std.proofs.Common.{◌≡◌, ℕ, ◌+◌, Bool, true, false, List, 
 use Rattle.om_code.specs.declared.instruction.Barrier.{Barrier}
 use Rattle.om_code.specs.declared.instruction.Comparison.{Comparison}
 use Rattle.om_code.specs.declared.instruction.Instr.TheVariants as i
+use Rattle.om_code.specs.declared.instruction.Serial.TheVariants as serials
+use Rattle.om_code.specs.declared.instruction.Sharing.TheVariants as sharings
+use Rattle.om_code.specs.declared.instruction.Region.TheVariants as regionals
 use Rattle.om_code.specs.declared.instruction.AtomicOperator.{AtomicOperator}
 use Rattle.om_code.specs.declared.instruction.Side.{Side}
 use Rattle.om_code.specs.declared.raw.Line.{Line}
@@ -88,7 +91,7 @@ module _ (base : Site) (code code' : List Line) (picks picks' : List (List ℕ))
 
   pub test_twin : (l f f' : ℕ) (e : ResolvedExpressionTree) → Twins (f ≡ f') (Unit {0}) (test c l f e) (test d l f' e)
   test_twin l f f' e p p' q q' r t = twin_part r t (value_twin l e p p')
-      (λ m m' r t. twin_jump r t tt (λ k. ap i.JumpIfZero k) twin_end)
+      (λ m m' r t. twin_jump r t tt (λ k. ap (λ x. i.Serial (serials.JumpIfZero x)) k) twin_end)
 
   pub returned_twin : (l : ℕ) (is_main : Bool) (e : Option ResolvedExpressionTree) → Twin (returned c l is_main e)
       (returned d l is_main e)
@@ -102,7 +105,7 @@ module _ (base : Site) (code code' : List Line) (picks picks' : List (List ℕ))
   pub jump_twin : (l : ℕ) (to to' : Option ℕ) → Twins (to ≡ to') (Unit {0}) (given to (jump c l)) (given to' (jump d l))
   jump_twin l None to' p p' q q' r t = absurd r
   jump_twin l (Some f) None p p' q q' r t = absurd t
-  jump_twin l (Some f) (Some f') p p' q q' r t = twin_jump r t tt (λ k. ap i.Jump (cc k)) twin_end
+  jump_twin l (Some f) (Some f') p p' q q' r t = twin_jump r t tt (λ k. ap (λ x. i.Serial (serials.Jump x)) (cc k)) twin_end
 
   pub copy_start_twin : (l : ℕ) (kind : CopyKind) (x : variables.Variable) (copy : LocalVariable)
       → Twin (copy_start c l kind x copy) (copy_start d l kind x copy)
@@ -179,7 +182,7 @@ module _ (base : Site) (code code' : List Line) (picks picks' : List (List ℕ))
       → Twins (Unit {0}) G (single_row c l nowait clauses body) (single_row d l nowait clauses body')
   single_twin l nowait clauses body body' h p p' q q' r t =
       twin_closed {L = r.0 ≡ t.0}
-      (twin_jump r.1 t.1 tt (λ k. ap i.Single k.1) (λ r t.
+      (twin_jump r.1 t.1 tt (λ k. ap (λ x. i.Sharing (sharings.Single x)) k.1) (λ r t.
       twin_part r t (starts_twin l clauses (p + 1) (p' + 1)) (λ m m' r t.
       twin_within r t (λ n. tt) (h m m') (λ m m' r t.
       twin_here r t (λ r t. twin_as (twin_more (end_twin l nowait m m' q q' r t) (λ n. tt)) (λ g. g))))))
@@ -191,7 +194,7 @@ module _ (base : Site) (code code' : List Line) (picks picks' : List (List ℕ))
   masked_twin l clauses body body' h p p' q q' r t =
       twin_closed {L = r.0 ≡ t.0}
       (twin_part r.1 t.1 (filter_twin l (clause_value clauses) p p') (λ m m' r t.
-      twin_jump r t tt (λ k. ap i.Masked k.1) (λ r t.
+      twin_jump r t tt (λ k. ap (λ x. i.Region (regionals.Masked x)) k.1) (λ r t.
       twin_within r t (λ n. tt) (h (m + 1) (m' + 1)) (λ m m' r t.
       twin_next r t tt (λ r t. twin_here r t twin_end)))))
       (λ g. g.1.0) (λ g. g.0)
@@ -222,11 +225,11 @@ module _ (base : Site) (code code' : List Line) (picks picks' : List (List ℕ))
       twin_part u v (starts_twin l clauses m m') (λ m m' u v.
       twin_next u v tt (λ u v.
       twin_here u v (λ u v.
-      twin_jump u v tt (λ k. ap i.Grab k.1.2) (λ u v.
+      twin_jump u v tt (λ k. ap (λ x. i.Sharing (sharings.Grab x)) k.1.2) (λ u v.
       twin_here u v (λ u v.
-      twin_jump u v tt (λ k. ap (i.Iterate (slot c loop.variable)) k.1.0) (λ u v.
+      twin_jump u v tt (λ k. ap ((λ y. i.Sharing (sharings.Iterate (slot c loop.variable) y))) k.1.0) (λ u v.
       twin_within u v (λ n. n.1.1) (h r.1 t.1 (m + 1 + 1 + 1) (m' + 1 + 1 + 1)) (λ m m' u v.
-      twin_jump u v tt (λ k. ap i.Jump k.1.1) (λ u v.
+      twin_jump u v tt (λ k. ap (λ x. i.Serial (serials.Jump x)) k.1.1) (λ u v.
       twin_here u v (λ u v.
       twin_part u v (reductions_twin l clauses (m + 1) (m' + 1)) (λ m m' u v.
       twin_more (end_twin l nowait m m' q q' u v) (λ n. tt))))))))))))))

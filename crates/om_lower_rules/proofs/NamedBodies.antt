@@ -7,6 +7,7 @@ use Rattle.std.specs.Str.{bytes_eq}
 use Rattle.std.proofs.lemmas.List.{length-map}
 use Rattle.std.proofs.lemmas.Option.{slice_get_within}
 use Rattle.om_code.specs.declared.instruction.Instr.TheVariants as i
+use Rattle.om_code.specs.declared.instruction.Serial.TheVariants as serials
 use Rattle.om_code.specs.declared.raw.Raw.{Raw}
 use Rattle.om_code.specs.declared.raw.Slot.{Slot}
 use Rattle.om_code.specs.Validity.{IsKnownBody}
@@ -360,7 +361,7 @@ module _ (tree : ResolvedTree) (raw : Raw) (at : Site) (slots : List Slot) (prog
         (statement_sights s) v)
         (formats_back (clause_formats clauses) (mentioned format_mention s) t) (locks_back (clause_locks clauses)
         (mentioned lock_mention s) k.1) b) p q r
-    statement_names (Construct first constructs.Atomic clauses s) n j around g w v t k b p q r =
+    statement_names (Construct first (constructs.Atomic access) clauses s) n j around g w v t k b p q r =
         assignment_names first.line s (within around clauses) g w.1 (slots_back (flat_map clause_sights clauses)
         (statement_sights s) v)
         (formats_back (clause_formats clauses) (mentioned format_mention s) t) p q r
@@ -404,7 +405,7 @@ module _ (tree : ResolvedTree) (raw : Raw) (at : Site) (slots : List Slot) (prog
     parts_names NoParts n l grab places around g w v t k b p q r = no_place_names places p q r
     parts_names (Part items rest) n l grab places around g w v t k b p q r =
         with_place_names places
-        (λ x xs. here x ▸ part (statements at n items nowhere) ▸ ins at l (i.Jump grab) ▸ parts at
+        (λ x xs. here x ▸ part (statements at n items nowhere) ▸ ins at l (i.Serial (serials.Jump grab)) ▸ parts at
         (behind_all n items) l grab rest xs)
         (λ x xs p q r. named_part r.1
         (statements_names items n nowhere around g w.1 (slots_front (statements_sights items) (parts_sights rest) v)

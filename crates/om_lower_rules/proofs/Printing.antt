@@ -12,6 +12,7 @@ use Rattle.std.proofs.lemmas.Slice.Eq.{bytes_eq-Decides}
 use Rattle.om_code.specs.declared.frame.Operand.{Operand}
 use Rattle.om_code.specs.declared.frame.Operand.TheVariants as operand
 use Rattle.om_code.specs.declared.instruction.Instr.TheVariants as i
+use Rattle.om_code.specs.declared.instruction.Serial.TheVariants as serials
 use Rattle.om_code.specs.declared.raw.Piece as texts
 use Rattle.om_code.specs.declared.raw.Raw.{Raw}
 use Rattle.om_code.specs.declared.raw.Slot.{Slot}
@@ -136,10 +137,10 @@ written_out p w bytes rest = frames.Onward (record {
 pub prints : (raw : Raw) (slots : List Slot) (formats : List (List ℕ)) (format : List ℕ) (values : List ℤ)
     (count p : ℕ) (s : List Operand) (w : World)
     → AllZip IsTextOf formats raw.texts → list_any (bytes_eq format) formats ≡ true → length values ≡ count
-    → turn_on raw slots (i.Print (number_in (bytes_eq format) formats) count) p (with_ints values s) w
+    → turn_on raw slots (i.Serial (serials.Print (number_in (bytes_eq format) formats) count)) p (with_ints values s) w
     ≡ frames.Onward (frame (p + 1) s (print format values w))
 prints raw slots formats format values count p s w zip there long =
-    subst (λ n. turn_on raw slots (i.Print (number_in (bytes_eq format) formats) n) p (with_ints values s) w
+    subst (λ n. turn_on raw slots (i.Serial (serials.Print (number_in (bytes_eq format) formats) n)) p (with_ints values s) w
     ≡ frames.Onward (frame (p + 1) s (print format values w))) long
     (ap (λ z. acted raw (frame p (with_ints values s) w) (frames.print (number_in (bytes_eq format) formats)
     (length values) z)) (ints_there values s)

@@ -6,6 +6,7 @@ use Rattle.om_code.specs.declared.instruction.AtomicOperator.{AtomicOperator}
 use Rattle.om_code.specs.declared.instruction.BinaryOperator as machine
 use Rattle.om_code.specs.declared.instruction.Comparison.{Comparison}
 use Rattle.om_code.specs.declared.instruction.Instr.TheVariants as i
+use Rattle.om_code.specs.declared.instruction.Serial.TheVariants as serials
 use Rattle.om_code.specs.declared.instruction.Side.{Side}
 use Rattle.om_scope_tree.specs.declared.resolved.ConstructKind.TheVariants as constructs
 use Rattle.om_scope_tree.specs.declared.resolved.LocalVariable.{LocalVariable}
@@ -245,7 +246,7 @@ module _ (at : Site) where
         )
     statement_says (Construct first (constructs.Critical name) clauses s) n j p q r = let u = r.1.1 in
         statement_says s n nowhere (p + 1 + 1) u.0 u.1
-    statement_says (Construct first constructs.Atomic clauses s) n j p q r = assignment_says first.line s p q r
+    statement_says (Construct first (constructs.Atomic access) clauses s) n j p q r = assignment_says first.line s p q r
     statement_says (Construct first constructs.Taskgroup clauses s) n j p q r = let u = r.1 in statement_says s n
         nowhere (p + 1) u.0 u.1
     statement_says (Update first u) n j p q r = updated_says first.line u.variable u.index _ _ u.operand p q r
@@ -265,7 +266,7 @@ module _ (at : Site) where
     parts_say NoParts n l grab places p q r = tt
     parts_say (Part items rest) n l grab places p q r =
         with_place_says places
-        (λ x xs. here x ▸ part (statements at n items nowhere) ▸ ins at l (i.Jump grab) ▸ parts at
+        (λ x xs. here x ▸ part (statements at n items nowhere) ▸ ins at l (i.Serial (serials.Jump grab)) ▸ parts at
         (behind_all n items) l grab rest xs)
         (StatementsAreCoded false false false items × PartsAreCoded false rest)
         (λ x xs p q r. let u = r.1 in (

@@ -6,6 +6,8 @@ use Rattle.om_lexer.specs.declared.token.Span.{Span}
 use Rattle.std.proofs.lemmas.Bool.{cases_lt}
 use Rattle.std.proofs.lemmas.Option.{get_or_from_slice_get}
 use Rattle.om_code.specs.declared.instruction.Instr.TheVariants as i
+use Rattle.om_code.specs.declared.instruction.Serial.TheVariants as serials
+use Rattle.om_code.specs.declared.instruction.Sharing.TheVariants as sharings
 use Rattle.om_code.specs.declared.raw.Line.{Line}
 use Rattle.om_scope_tree.specs.declared.resolved.Capture.{Capture}
 use Rattle.om_scope_tree.specs.declared.resolved.ConstructKind.TheVariants as constructs
@@ -203,16 +205,16 @@ module _ (functions : List ResolvedFunctionTree) (formats locks picks picks' : L
       statement_twin (If first c s) n outer base code code' j j' p p' q q' r t =
           twin_closed {L = r.0 ≡ t.0}
           (twin_part r.1 t.1 (expressions.value_twin base code code' picks picks' first.line c p p') (λ m m' r t.
-          twin_jump r t tt (λ k. ap i.JumpIfZero k.1) (λ r t.
+          twin_jump r t tt (λ k. ap (λ x. i.Serial (serials.JumpIfZero x)) k.1) (λ r t.
           twin_within r t (λ k. k.0) (statement_twin s n outer base code code' j j' (m + 1) (m' + 1)) (λ m m' r t.
           twin_here r t twin_end))))
           (λ g. g.1.0) (λ g. g.0)
       statement_twin (IfElse first c s u) n outer base code code' j j' p p' q q' r t =
           twin_closed {L = (r.0 ≡ t.0) × (r.1 ≡ t.1)}
           (twin_part r.2 t.2 (expressions.value_twin base code code' picks picks' first.line c p p') (λ m m' r t.
-          twin_jump r t tt (λ k. ap i.JumpIfZero k.1.0) (λ r t.
+          twin_jump r t tt (λ k. ap (λ x. i.Serial (serials.JumpIfZero x)) k.1.0) (λ r t.
           twin_within r t (λ k. k.0) (statement_twin s n outer base code code' j j' (m + 1) (m' + 1)) (λ m m' r t.
-          twin_jump r t tt (λ k. ap i.Jump k.1.1) (λ r t.
+          twin_jump r t tt (λ k. ap (λ x. i.Serial (serials.Jump x)) k.1.1) (λ r t.
           twin_here r t (λ r t.
           twin_within r t (λ k. k.0) (statement_twin u (behind n s) outer base code code' j j' (m + 1) (m' + 1))
           (λ m m' r t.
@@ -224,10 +226,10 @@ module _ (functions : List ResolvedFunctionTree) (formats locks picks picks' : L
           twin_closed {L = (r.0 ≡ t.0) × (r.1 ≡ t.1)}
           (twin_here r.2 t.2 (λ u v.
           twin_part u v (expressions.value_twin base code code' picks picks' first.line c p p') (λ m m' u v.
-          twin_jump u v tt (λ k. ap i.JumpIfZero k.1.1) (λ u v.
+          twin_jump u v tt (λ k. ap (λ x. i.Serial (serials.JumpIfZero x)) k.1.1) (λ u v.
           twin_within u v (λ k. (ap Some k.1.1, ap Some k.1.0)) (statement_twin s n outer base code code'
           (in_loop r.1 r.0) (in_loop t.1 t.0) (m + 1) (m' + 1)) (λ m m' u v.
-          twin_jump u v tt (λ k. ap i.Jump k.1.0) (λ u v.
+          twin_jump u v tt (λ k. ap (λ x. i.Serial (serials.Jump x)) k.1.0) (λ u v.
           twin_here u v twin_end))))))
           (λ g. (g.0, g.1.1.0)) (λ g. g.1.0)
       statement_twin (Do first s c) n outer base code code' j j' p p' q q' r t =
@@ -237,8 +239,8 @@ module _ (functions : List ResolvedFunctionTree) (formats locks picks picks' : L
           (in_loop r.2 r.1) (in_loop t.2 t.1) p p') (λ m m' u v.
           twin_here u v (λ u v.
           twin_part u v (expressions.value_twin base code code' picks picks' first.line c m m') (λ m m' u v.
-          twin_jump u v tt (λ k. ap i.JumpIfZero k.1.2) (λ u v.
-          twin_jump u v tt (λ k. ap i.Jump k.1.0) (λ u v.
+          twin_jump u v tt (λ k. ap (λ x. i.Serial (serials.JumpIfZero x)) k.1.2) (λ u v.
+          twin_jump u v tt (λ k. ap (λ x. i.Serial (serials.Jump x)) k.1.0) (λ u v.
           twin_here u v twin_end)))))))
           (λ g. (g.0, g.1.1.0, g.1.1.1.0)) (λ g. g.1.0)
       statement_twin (For first begin c step s) n outer base code code' j j' p p' q q' r t =
@@ -256,7 +258,7 @@ module _ (functions : List ResolvedFunctionTree) (formats locks picks picks' : L
           (heads.perhaps_twin base code code' picks picks' (effect (with_code base code picks) first.line)
           (effect (with_code base code' picks') first.line) step
           (expressions.effect_twin base code code' picks picks' first.line) m m') (λ m m' u v.
-          twin_jump u v tt (λ k. ap i.Jump k.1.0) (λ u v.
+          twin_jump u v tt (λ k. ap (λ x. i.Serial (serials.Jump x)) k.1.0) (λ u v.
           twin_here u v twin_end))))))))
           (λ g. (g.0, g.1.1.1.0, g.1.1.1.1.0)) (λ g. g.1.1.0)
       statement_twin (Return first e) n outer base code code' j j' p p' q q' r t =
@@ -299,9 +301,9 @@ module _ (functions : List ResolvedFunctionTree) (formats locks picks picks' : L
       statement_twin (Sections first clauses nowait sections) n outer base code code' j j' p p' q q' r t =
           twin_closed {L = (r.0 ≡ t.0) × (r.1 ≡ t.1) × (r.2 ≡ t.2)}
           (twin_part r.4 t.4 (heads.starts_twin base code code' picks picks' first.line clauses p p') (λ m m' u v.
-          twin_jump u v tt (λ k. ap (λ z. i.Sections (length z)) k.1.0) (λ u v.
+          twin_jump u v tt (λ k. ap (λ z. i.Sharing (sharings.Sections (length z))) k.1.0) (λ u v.
           twin_here u v (λ u v.
-          twin_jump u v tt (λ k. ap i.Grab k.1.2) (λ u v.
+          twin_jump u v tt (λ k. ap (λ x. i.Sharing (sharings.Grab x)) k.1.2) (λ u v.
           twin_pick u v (λ k. one_list n.picks r.0 t.0 r.3 t.3 k.1.0) (λ u v.
           twin_within u v (λ k. k.1.1)
           (parts_twin sections (next_pick n) outer base code code' first.line r.1 t.1 r.0 t.0 (m + 1 + 1 + 1)
@@ -336,7 +338,7 @@ module _ (functions : List ResolvedFunctionTree) (formats locks picks picks' : L
           (λ k. (refl, refl)))
           p p' q q' r t)
           (λ k. tt)
-      statement_twin (Construct first constructs.Atomic clauses s) n outer base code code' j j' p p' q q' r t =
+      statement_twin (Construct first (constructs.Atomic access) clauses s) n outer base code code' j j' p p' q q' r t =
           twin_more (assignment_twin first.line s n outer base code code' p p' q q' r t) (λ k. tt)
       statement_twin (Construct first constructs.Taskgroup clauses s) n outer base code code' j j' p p' q q' r t =
           twin_more
@@ -374,17 +376,17 @@ module _ (functions : List ResolvedFunctionTree) (formats locks picks picks' : L
       parts_twin (Part items rest) n outer base code code' l grab grab' places places' p p' q q' r t =
           with_place_twin code code' places places'
           (λ x xs. here x ▸ part (statements (with_code base code picks) n items nowhere) ▸ ins
-          (with_code base code picks) l (i.Jump grab)
+          (with_code base code picks) l (i.Serial (serials.Jump grab))
           ▸ parts (with_code base code picks) (behind_all n items) l grab rest xs)
           (λ x xs. here x ▸ part (statements (with_code base code' picks') n items nowhere) ▸ ins
-          (with_code base code' picks') l (i.Jump grab')
+          (with_code base code' picks') l (i.Serial (serials.Jump grab'))
           ▸ parts (with_code base code' picks') (behind_all n items) l grab' rest xs)
           (λ x y xs ys p p' q q' r t.
           twin_as
           (twin_here r t (λ r t.
           twin_within r t (λ k. (refl, refl)) (statements_twin items n outer base code code' nowhere nowhere p p')
           (λ m m' r t.
-          twin_jump r t tt (λ k. ap i.Jump k) (λ r t.
+          twin_jump r t tt (λ k. ap (λ x. i.Serial (serials.Jump x)) k) (λ r t.
           parts_twin rest (behind_all n items) outer base code code' l grab grab' xs ys (m + 1) (m' + 1) q q' r t))))
           (λ g. (
             g.0,

@@ -7,6 +7,8 @@ use Rattle.std.specs.Str.{bytes_eq}
 use Rattle.std.proofs.lemmas.List.Elements.{All-head, All-tail}
 use Rattle.om_code.specs.declared.frame.Operand.{Operand}
 use Rattle.om_code.specs.declared.instruction.Instr.TheVariants as i
+use Rattle.om_code.specs.declared.instruction.Serial.TheVariants as serials
+use Rattle.om_code.specs.declared.instruction.Function.TheVariants as calls
 use Rattle.om_code.specs.declared.raw.Body.{Body}
 use Rattle.om_code.specs.declared.raw.Raw.{Raw}
 use Rattle.om_code.specs.Frames as frames
@@ -108,11 +110,11 @@ module _ (raw : Raw) (body : Body) (at : Site) (same : at.code ≡ body.code) (t
 
   printed_drops : (format : List ℕ) (count l m q : ℕ) (c : Frame) (s : List Operand) (r : Values)
       → list_any (bytes_eq format) at.formats ≡ true
-      → GivesAll c m s count r → (ins at l (i.Print (number_in (bytes_eq format) at.formats) count) ▸ end) m q
+      → GivesAll c m s count r → (ins at l (i.Serial (serials.Print (number_in (bytes_eq format) at.formats) count)) ▸ end) m q
       → Drops raw body c q s (flows.printed format r)
   printed_drops format count l m q c s (GotAll vs w) there g h =
       come_lead c _ _ g.1
-      (steps.step raw body m l (i.Print (number_in (bytes_eq format) at.formats) count) (with_ints vs s) w _
+      (steps.step raw body m l (i.Serial (serials.Print (number_in (bytes_eq format) at.formats) count)) (with_ints vs s) w _
       (expressions.has raw body at same _ h.0)
       (prints raw body.slots at.formats format vs count m s w texts there g.0
       ∙ ap (λ n. frames.Onward (frame n s (print format vs w))) h.1))
@@ -121,10 +123,10 @@ module _ (raw : Raw) (body : Body) (at : Site) (same : at.code ≡ body.code) (t
   -- ---- expressions whose value nothing uses
 
   popped : (l m q : ℕ) (c : Frame) (s : List Operand) (r : Outcome) → Gives raw body c m s r
-      → (ins at l i.Pop ▸ end) m q → Drops raw body c q s r
+      → (ins at l (i.Serial serials.Pop) ▸ end) m q → Drops raw body c q s r
   popped l m q c s (Got v w) g h =
       steps.leads_on raw body c _ _ g
-      (steps.step raw body m l i.Pop (with_int v s) w _ (expressions.has raw body at same _ h.0)
+      (steps.step raw body m l (i.Serial serials.Pop) (with_int v s) w _ (expressions.has raw body at same _ h.0)
       (ap (λ n. frames.Onward (frame n s w)) h.1))
   popped l m q c s (Faulty f w) g h = g
 
@@ -185,7 +187,7 @@ module _ (raw : Raw) (body : Body) (at : Site) (same : at.code ≡ body.code) (t
       → declared at l x e p q → Run n (frame p s w) q jumps s (flows.declared L x e w)
   declared_runs x None l n p q jumps s w g h =
       runs.comes raw body at.is_main _ _
-      (steps.step raw body p l (i.Clear (slot at x)) s w _ (expressions.has raw body at same _ h.0)
+      (steps.step raw body p l (i.Serial (serials.Clear (slot at x))) s w _ (expressions.has raw body at same _ h.0)
       (clear_acts raw body.slots (slot at x) p s w ∙ ap (λ m. frames.Onward (frame m s (clear (slot at x) w))) h.1))
   declared_runs x (Some e) l n p q jumps s w g h =
       runs.value_then raw body at.is_main n _ h.0 q jumps s s (value_of L e w)
@@ -193,7 +195,7 @@ module _ (raw : Raw) (body : Body) (at : Site) (same : at.code ≡ body.code) (t
       (value_gives e l p h.0 s w g h.1)
       (λ v u. runs.effect_then raw body at.is_main n _ q q jumps s s (store (place at (named.Local x.at)) 0 v u)
       flows.Onward
-      (steps.drops raw body h.0 l q (i.Store (place at (named.Local x.at)) false) (with_int v s) s u
+      (steps.drops raw body h.0 l q (i.Serial (serials.Store (place at (named.Local x.at)) false)) (with_int v s) s u
       (store (place at (named.Local x.at)) 0 v u)
       (expressions.has raw body at same _ h.2.0) (store_drops raw body.slots (place at (named.Local x.at)) h.0 v s
       u) h.2.1)
@@ -226,7 +228,7 @@ module _ (raw : Raw) (body : Body) (at : Site) (same : at.code ≡ body.code) (t
 
   -- a test at the head of a loop that ends at `over`
   test_runs : (e : ResolvedExpressionTree) (l start pt over : ℕ) (jumps : Jumps) (s : List Operand) → IsSerial e
-      → (part (value at l e) ▸ ins at l (i.JumpIfZero over) ▸ end) start pt
+      → (part (value at l e) ▸ ins at l (i.Serial (serials.JumpIfZero over)) ▸ end) start pt
       → runs.Tests raw body at.is_main start pt over jumps s (tested (λ u. value_of L e u))
   test_runs e l start pt over jumps s g h n w f go =
       runs.value_then raw body at.is_main n _ h.0 over jumps s s (value_of L e w)
@@ -245,7 +247,7 @@ module _ (raw : Raw) (body : Body) (at : Site) (same : at.code ≡ body.code) (t
 
   -- the same, where the test is counted
   test_counts : (e : ResolvedExpressionTree) (l start pt over : ℕ) (jumps : Jumps) (s : List Operand) → IsSerial e
-      → (part (value at l e) ▸ ins at l (i.JumpIfZero over) ▸ end) start pt → (n : ℕ) (w : World) (f : World → Flow)
+      → (part (value at l e) ▸ ins at l (i.Serial (serials.JumpIfZero over)) ▸ end) start pt → (n : ℕ) (w : World) (f : World → Flow)
       → ((u : World) → Run n (frame pt s u) over jumps s (f u)) → Run (suc n) (frame start s w) over jumps s
       (tested (λ u. value_of L e u) w f)
   test_counts e l start pt over jumps s g h n w f go =
@@ -260,7 +262,7 @@ module _ (raw : Raw) (body : Body) (at : Site) (same : at.code ≡ body.code) (t
   step_back : (e : Option ResolvedExpressionTree) (f : World → Flow) (l n from m start over : ℕ) (jumps : Jumps)
       (s : List Operand) (w : World)
       → IfSome e (IsSpokenEffect at.formats) → perhaps (effect at l) e from m → slice_get at.code m
-      ≡ Some (record { instruction = i.Jump start; line = l })
+      ≡ Some (record { instruction = i.Serial (serials.Jump start); line = l })
       → ((u : World) → Run n (frame start s u) over jumps s (f u)) → Run (suc n) (frame from s w) over jumps s
       (then_do (effect_if_any L e w) f)
   step_back e f l n from m start over jumps s w g h back_jump back =
@@ -279,20 +281,20 @@ module _ (raw : Raw) (body : Body) (at : Site) (same : at.code ≡ body.code) (t
       (w : World) → IfSome e IsSerial
       → returned at l b e p q → Does raw body b n (frame p s w) q jumps s (flows.returned L e w)
   returned_runs true None l n p q jumps s w g h =
-      steps.stop raw body p l (i.Finish false) s w w (ended true None) (frame p s w)
+      steps.stop raw body p l (i.Function (calls.Finish false)) s w w (ended true None) (frame p s w)
       (expressions.has raw body at same _ h.0) refl refl refl
   returned_runs false None l n p q jumps s w g h =
-      steps.stop raw body p l i.ReturnNothing s w w (ended false None) (frame p s w)
+      steps.stop raw body p l (i.Function calls.ReturnNothing) s w w (ended false None) (frame p s w)
       (expressions.has raw body at same _ h.0) refl refl refl
   returned_runs true (Some e) l n p q jumps s w g h =
       runs.value_then raw body true n _ h.0 q jumps s s (value_of L e w) (λ v u. flows.Returned (Some v) u)
       (value_gives e l p h.0 s w g h.1)
-      (λ v u. steps.stop raw body h.0 l (i.Finish true) (with_int v s) u u (ended true (Some v))
+      (λ v u. steps.stop raw body h.0 l (i.Function (calls.Finish true)) (with_int v s) u u (ended true (Some v))
       (frame h.0 (with_int v s) u) (expressions.has raw body at same _ h.2.0) refl refl refl)
   returned_runs false (Some e) l n p q jumps s w g h =
       runs.value_then raw body false n _ h.0 q jumps s s (value_of L e w) (λ v u. flows.Returned (Some v) u)
       (value_gives e l p h.0 s w g h.1)
-      (λ v u. steps.stop raw body h.0 l i.Return (with_int v s) u u (ended false (Some v))
+      (λ v u. steps.stop raw body h.0 l (i.Function calls.Return) (with_int v s) u u (ended false (Some v))
       (frame h.0 (with_int v s) u) (expressions.has raw body at same _ h.2.0) refl refl refl)
 
   -- ---- statements
@@ -336,7 +338,7 @@ module _ (raw : Raw) (body : Body) (at : Site) (same : at.code ≡ body.code) (t
         (λ u. meaning L y n u) flows.Onward
         (λ k f le back u.
         test_counts c first.line start (r.0 + 1) over jumps s g.0
-        (subst (λ z. (part (value at first.line c) ▸ ins at first.line (i.JumpIfZero over) ▸ end) z (r.0 + 1))
+        (subst (λ z. (part (value at first.line c) ▸ ins at first.line (i.Serial (serials.JumpIfZero over)) ▸ end) z (r.0 + 1))
         (sym h.2.0) (r.0, r.1, (r.2.0, refl)))
         k u (λ t. after_turn (meaning L y n t) f)
         (λ t. runs.after_body raw body at.is_main k n _ b.0 over start jumps s (meaning L y n t) f (omega (arith, le))

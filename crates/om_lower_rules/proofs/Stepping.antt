@@ -5,10 +5,11 @@ use Rattle.om_code.specs.declared.frame.Fault.{Fault}
 use Rattle.om_code.specs.declared.frame.Operand.{Operand}
 use Rattle.om_code.specs.declared.instruction.Instr.{Instr}
 use Rattle.om_code.specs.declared.instruction.Instr.TheVariants as i
+use Rattle.om_code.specs.declared.instruction.Serial.TheVariants as serials
 use Rattle.om_code.specs.declared.raw.Body.{Body}
 use Rattle.om_code.specs.declared.raw.Raw.{Raw}
 use Rattle.om_code.specs.Frames as frames
-use Rattle.om_code.specs.Frames.{Frame, FrameTurn, Faulted, frame_turn, turn_at, acted, act}
+use Rattle.om_code.specs.Frames.{Frame, FrameTurn, Faulted, frame_turn, turn_at, acted, act_at}
 use Rattle.om_lower_rules.specs.Meaning.{is_zero}
 use Rattle.om_lower_rules.specs.Running.{frame, world_of, on_from, run, with_int, Leads, Ends, Gives, Drops}
 use Rattle.om_lower_rules.specs.Worlds.{World, Outcome, Got, Faulty, with_value}
@@ -126,9 +127,9 @@ module _ (raw : Raw) (body : Body) where
       → Gives raw body c q t r
   gives_to c m q t r e g = subst (λ n. Gives raw body c n t r) e g
 
-  pub jump : (p l a q : ℕ) (s : List Operand) (w : World) → Has p l (i.Jump a) → a ≡ q
+  pub jump : (p l a q : ℕ) (s : List Operand) (w : World) → Has p l (i.Serial (serials.Jump a)) → a ≡ q
       → Leads raw body (frame p s w) (frame q s w)
-  jump p l a q s w has e = step p l (i.Jump a) s w _ has (ap (λ n. frames.Onward (frame n s w)) e)
+  jump p l a q s w has e = step p l (i.Serial (serials.Jump a)) s w _ has (ap (λ n. frames.Onward (frame n s w)) e)
 
   jumped : (b : Bool) (p a : ℕ) (v : ℤ) (s : List Operand) (w : World)
       → acted raw (frame p (with_int v s) w) (frames.decided (frames.jump_if b a))
@@ -136,6 +137,6 @@ module _ (raw : Raw) (body : Body) where
   jumped true p a v s w = refl
   jumped false p a v s w = refl
 
-  pub branches : (p l a : ℕ) (v : ℤ) (s : List Operand) (w : World) → Has p l (i.JumpIfZero a)
+  pub branches : (p l a : ℕ) (v : ℤ) (s : List Operand) (w : World) → Has p l (i.Serial (serials.JumpIfZero a))
       → Leads raw body (frame p (with_int v s) w) (frame (if is_zero v then a else p + 1) s w)
-  branches p l a v s w has = step p l (i.JumpIfZero a) (with_int v s) w _ has (jumped (is_zero v) p a v s w)
+  branches p l a v s w has = step p l (i.Serial (serials.JumpIfZero a)) (with_int v s) w _ has (jumped (is_zero v) p a v s w)

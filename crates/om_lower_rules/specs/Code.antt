@@ -3,6 +3,8 @@ use Rattle.std.specs.Prelude.{◌≡◌, ℕ, List, [], Some, false, length, map
 use Rattle.std.specs.List.{AllZip}
 use Rattle.om_code.specs.declared.instruction.Barrier.TheVariants as barriers
 use Rattle.om_code.specs.declared.instruction.Instr.TheVariants as i
+use Rattle.om_code.specs.declared.instruction.Team.TheVariants as teams
+use Rattle.om_code.specs.declared.instruction.Task.TheVariants as taskings
 use Rattle.om_code.specs.declared.raw.Body.{Body}
 use Rattle.om_code.specs.declared.raw.GlobalVariable as raws
 use Rattle.om_code.specs.declared.raw.Names.{Names}
@@ -16,7 +18,8 @@ use Rattle.om_scope_tree.specs.ResolvedTree.{ResolvedFunctionTree, ResolvedTree}
 use Rattle.om_lower_rules.specs.declared.variables.VariableScope.{VariableScope}
 use Rattle.om_lower_rules.specs.Bodies.{Numbers, BodyTree, FunctionBody, RegionBody, BodySite, variables_of}
 use Rattle.om_lower_rules.specs.Bodies.{bodies_of, behind_functions, first_numbers, called_body}
-use Rattle.om_lower_rules.specs.Mentions.{extents_of, formats_of, locks_of, IsTextOf}
+use Rattle.om_lower_rules.specs.AtomicPlaces.{atomic_places}
+use Rattle.om_lower_rules.specs.Mentions.{atomic_lines, extents_of, formats_of, locks_of, IsTextOf}
 use Rattle.om_lower_rules.specs.Rows.{Site, Row, end, ins, part, ◌▸◌}
 use Rattle.om_lower_rules.specs.Scopes.{body_scopes, names_with}
 use Rattle.om_lower_rules.specs.Slots.{parameter_sight, slot_of, slot_with}
@@ -30,11 +33,11 @@ abbrev pub body_row : Site → Numbers → ResolvedFunctionTree → BodyTree →
 body_row at n f FunctionBody =
     part (statements at n f.body nowhere) ▸ ins at f.closing_line (last_instruction at.is_main false) ▸ end
 body_row at n f (RegionBody first kinds.Parallel clauses captures s) =
-    ins at first.line i.Begin ▸ part (reduction_starts at first.line clauses) ▸ part (statement at n s nowhere)
-    ▸ part (reductions at first.line clauses) ▸ ins at first.line (i.Arrive barriers.Parallel) ▸ ins at first.line
-    i.Leave ▸ end
+    ins at first.line (i.Team teams.Begin) ▸ part (reduction_starts at first.line clauses) ▸ part (statement at n s nowhere)
+    ▸ part (reductions at first.line clauses) ▸ ins at first.line (i.Team (teams.Arrive barriers.Parallel)) ▸ ins at first.line
+    (i.Team teams.Leave) ▸ end
 body_row at n f (RegionBody first kinds.Task clauses captures s) =
-    part (statement at n s nowhere) ▸ ins at first.line i.TaskEnd ▸ end
+    part (statement at n s nowhere) ▸ ins at first.line (i.Task taskings.TaskEnd) ▸ end
 
 -- the variables that get the values with which a frame of a body begins
 abbrev pub given_variables : ResolvedFunctionTree → BodyTree → List ℕ
@@ -77,6 +80,7 @@ pub record IsBodyOf (tree : ResolvedTree) (raw : Raw) (b : BodySite) (body : Bod
   pub code : body_row (site_of tree raw b body) b.numbers b.function b.tree 0 (length body.code)
   pub slots : body.slots ≡ slots_of b
   pub given : body.given ≡ given_of b
+  pub atomic : body.atomic ≡ atomic_places (atomic_lines tree) body.code
   pub names : HasScopes (site_of tree raw b body) b body.names
 
 -- ---- the program

@@ -10,6 +10,12 @@ use Rattle.om_code.specs.declared.instruction.Barrier.TheVariants as barriers
 use Rattle.om_code.specs.declared.instruction.Comparison.{Comparison}
 use Rattle.om_code.specs.declared.instruction.Instr.{Instr}
 use Rattle.om_code.specs.declared.instruction.Instr.TheVariants as i
+use Rattle.om_code.specs.declared.instruction.Serial.TheVariants as serials
+use Rattle.om_code.specs.declared.instruction.Function.TheVariants as calls
+use Rattle.om_code.specs.declared.instruction.Team.TheVariants as teams
+use Rattle.om_code.specs.declared.instruction.Sharing.TheVariants as sharings
+use Rattle.om_code.specs.declared.instruction.Region.TheVariants as regionals
+use Rattle.om_code.specs.declared.instruction.Task.TheVariants as taskings
 use Rattle.om_code.specs.declared.instruction.Side.{Side}
 use Rattle.om_scope_tree.specs.declared.resolved.Capture.{Capture}
 use Rattle.om_scope_tree.specs.declared.resolved.ConstructKind.{ConstructKind}
@@ -53,14 +59,14 @@ abbrev pub in_iteration : ℕ → Jumps
 in_iteration next = record { over = None; next = Some next }
 
 abbrev pub jump : Site → ℕ → ℕ → Row
-jump at l target = ins at l (i.Jump target) ▸ end
+jump at l target = ins at l (i.Serial (serials.Jump target)) ▸ end
 
 -- ---- declarations, and the heads of loops
 
 -- `int x;` and `int x = e;`
 abbrev pub declared : Site → ℕ → LocalVariable → Option ResolvedExpressionTree → Row
-declared at l x None = ins at l (i.Clear (slot at x)) ▸ end
-declared at l x (Some e) = part (value at l e) ▸ ins at l (i.Store (place at (named.Local x.at)) false) ▸ end
+declared at l x None = ins at l (i.Serial (serials.Clear (slot at x))) ▸ end
+declared at l x (Some e) = part (value at l e) ▸ ins at l (i.Serial (serials.Store (place at (named.Local x.at)) false)) ▸ end
 
 abbrev pub declarator : Site → ℕ → ResolvedDeclaratorTree → Row
 declarator at l d = declared at l d.variable d.initial
@@ -72,13 +78,13 @@ start at l (StartDeclaration ds) = each (declarator at l) ds
 
 -- c, JZ F
 abbrev pub test : Site → ℕ → ℕ → ResolvedExpressionTree → Row
-test at l f c = part (value at l c) ▸ ins at l (i.JumpIfZero f) ▸ end
+test at l f c = part (value at l c) ▸ ins at l (i.Serial (serials.JumpIfZero f)) ▸ end
 
 -- what ends the frame of a function, with a value or without: RET and RETN, in `main` FIN with a value and FIN
 abbrev pub last_instruction : (is_main has_value : Bool) → Instr
-last_instruction true has_value = i.Finish has_value
-last_instruction false true = i.Return
-last_instruction false false = i.ReturnNothing
+last_instruction true has_value = i.Function (calls.Finish has_value)
+last_instruction false true = (i.Function calls.Return)
+last_instruction false false = (i.Function calls.ReturnNothing)
 
 -- `return e;` and `return;`
 abbrev pub returned : Site → ℕ → (is_main : Bool) → Option ResolvedExpressionTree → Row
@@ -89,11 +95,11 @@ returned at l is_main (Some e) = part (value at l e) ▸ ins at l (last_instruct
 
 -- what the copies of a worksharing construct begin with, in clause order
 abbrev pub copy_start : Site → ℕ → CopyKind → variables.Variable → LocalVariable → Row
-copy_start at l copies.Private x copy = ins at l (i.Clear (slot at copy)) ▸ end
+copy_start at l copies.Private x copy = ins at l (i.Serial (serials.Clear (slot at copy))) ▸ end
 copy_start at l copies.Firstprivate x copy =
-    ins at l (i.Load (place at x)) ▸ ins at l (i.Store (place at (named.Local copy.at)) false) ▸ end
+    ins at l (i.Serial (serials.Load (place at x))) ▸ ins at l (i.Serial (serials.Store (place at (named.Local copy.at)) false)) ▸ end
 copy_start at l (copies.Reduction o) x copy =
-    ins at l (i.Constant (identity_of o)) ▸ ins at l (i.Store (place at (named.Local copy.at)) false) ▸ end
+    ins at l (i.Serial (serials.Constant (identity_of o))) ▸ ins at l (i.Serial (serials.Store (place at (named.Local copy.at)) false)) ▸ end
 
 abbrev pub clause_start : Site → ℕ → ResolvedClauseTree → Row
 clause_start at l (ClauseValue kind e) = end
@@ -122,7 +128,7 @@ reduction_starts at l clauses = each (clause_reduction_start at l) clauses
 abbrev pub combine_copy : Site → ℕ → CopyKind → variables.Variable → LocalVariable → Row
 combine_copy at l copies.Private x copy = end
 combine_copy at l copies.Firstprivate x copy = end
-combine_copy at l (copies.Reduction o) x copy = ins at l (i.Reduce (reduction_of o) (slot at copy) (place at x)) ▸ end
+combine_copy at l (copies.Reduction o) x copy = ins at l (i.Sharing (sharings.Reduce (reduction_of o) (slot at copy) (place at x))) ▸ end
 
 abbrev pub combine_clause : Site → ℕ → ResolvedClauseTree → Row
 combine_clause at l (ClauseValue kind e) = end
@@ -144,17 +150,17 @@ abbrev pub given_copies : List ResolvedClauseTree → List Capture → ResolvedS
 given_copies clauses captures s = by_slots (region_variables clauses s) (first_copies clauses captures)
 
 abbrev pub load_original : Site → ℕ → FirstCopy → Row
-load_original at l copy = ins at l (i.Load (place at copy.original)) ▸ end
+load_original at l copy = ins at l (i.Serial (serials.Load (place at copy.original))) ▸ end
 
 -- ---- the ends of constructs
 
 -- ARRIVE, DEPART
 abbrev pub barrier : Site → ℕ → Barrier → Row
-barrier at l kind = ins at l (i.Arrive kind) ▸ ins at l (i.Depart kind) ▸ end
+barrier at l kind = ins at l (i.Team (teams.Arrive kind)) ▸ ins at l (i.Team (teams.Depart kind)) ▸ end
 
 -- the end of a worksharing construct: all wait for each other, unless it is `nowait`
 abbrev pub worksharing_end : Site → ℕ → (nowait : Bool) → Row
-worksharing_end at l nowait = ins at l i.EndWorksharing ▸ unless nowait (barrier at l barriers.Worksharing)
+worksharing_end at l nowait = ins at l (i.Sharing sharings.EndWorksharing) ▸ unless nowait (barrier at l barriers.Worksharing)
 
 -- what stands behind a worksharing loop, or behind the parts of `sections`: RED each, ENDW, and without `nowait`
 -- ARRIVE and DEPART of the barrier of worksharing
@@ -165,9 +171,9 @@ closes at l clauses nowait = part (reductions at l clauses) ▸ worksharing_end 
 
 abbrev pub alone_row : Site → ℕ → alone.StandAlone → Row
 alone_row at l alones.Barrier = barrier at l barriers.Explicit
-alone_row at l alones.Taskwait = ins at l i.WaitBegin ▸ ins at l i.WaitEnd ▸ end
-alone_row at l alones.Taskyield = ins at l i.Yield ▸ end
-alone_row at l (alones.Flush vs) = ins at l i.Nop ▸ end
+alone_row at l alones.Taskwait = ins at l (i.Task taskings.WaitBegin) ▸ ins at l (i.Task taskings.WaitEnd) ▸ end
+alone_row at l alones.Taskyield = ins at l (i.Task taskings.Yield) ▸ end
+alone_row at l (alones.Flush vs) = ins at l (i.Serial serials.Nop) ▸ end
 
 -- ---- constructs round a part
 
@@ -177,11 +183,11 @@ filter_row at l (Some e) = value at l e
 
 abbrev pub single_row : Site → ℕ → (nowait : Bool) → List ResolvedClauseTree → Row → Row
 single_row at l nowait clauses body = fresh (λ e.
-    ins at l (i.Single e) ▸ part (starts at l clauses) ▸ part body ▸ here e ▸ worksharing_end at l nowait)
+    ins at l (i.Sharing (sharings.Single e)) ▸ part (starts at l clauses) ▸ part body ▸ here e ▸ worksharing_end at l nowait)
 
 abbrev pub masked_row : Site → ℕ → List ResolvedClauseTree → Row → Row
 masked_row at l clauses body = fresh (λ e.
-    part (filter_row at l (clause_value clauses)) ▸ ins at l (i.Masked e) ▸ part body ▸ ins at l i.EndMasked
+    part (filter_row at l (clause_value clauses)) ▸ ins at l (i.Region (regionals.Masked e)) ▸ part body ▸ ins at l (i.Region regionals.EndMasked)
     ▸ here e ▸ end)
 
 abbrev pub lock_number : Site → Option (List ℕ) → ℕ
@@ -189,15 +195,15 @@ lock_number at name = number_in (bytes_eq (lock_name name)) at.locks
 
 abbrev pub critical_row : Site → ℕ → Option (List ℕ) → Row → Row
 critical_row at l name body =
-    ins at l (i.AskCritical (lock_number at name)) ▸ ins at l (i.EnterCritical (lock_number at name))
-    ▸ part body ▸ ins at l (i.LeaveCritical (lock_number at name)) ▸ end
+    ins at l (i.Region (regionals.AskCritical (lock_number at name))) ▸ ins at l (i.Region (regionals.EnterCritical (lock_number at name)))
+    ▸ part body ▸ ins at l (i.Region (regionals.LeaveCritical (lock_number at name))) ▸ end
 
 -- (index,) e, ATOM or ATOMX
 abbrev pub updated : Site → ℕ → variables.Variable → Option ResolvedExpressionTree → AtomicOperator → Side
     → ResolvedExpressionTree → Row
-updated at l x None operator side e = part (value at l e) ▸ ins at l (i.Atomic operator side (place at x)) ▸ end
+updated at l x None operator side e = part (value at l e) ▸ ins at l (i.Serial (serials.Atomic operator side (place at x))) ▸ end
 updated at l x (Some j) operator side e =
-    part (value at l j) ▸ part (value at l e) ▸ ins at l (i.AtomicElement operator side (place at x)) ▸ end
+    part (value at l j) ▸ part (value at l e) ▸ ins at l (i.Serial (serials.AtomicElement operator side (place at x))) ▸ end
 
 abbrev pub update_row : Site → ℕ → ResolvedUpdateTree → Row
 update_row at l u = updated at l u.variable u.index (update_of u.operator) (side_of u.side) u.operand
@@ -209,14 +215,14 @@ assignment_row at l _ = never
 
 -- TGB, body, TGE
 abbrev pub group_row : Site → ℕ → Row → Row
-group_row at l body = ins at l i.GroupBegin ▸ part body ▸ ins at l i.GroupEnd ▸ end
+group_row at l body = ins at l (i.Task taskings.GroupBegin) ▸ part body ▸ ins at l (i.Task taskings.GroupEnd) ▸ end
 
 -- round a statement, whose code is this
 abbrev pub construct_row : Site → ℕ → ConstructKind → List ResolvedClauseTree → ResolvedStatementTree → Row → Row
 construct_row at l (constructs.Single nowait) clauses s body = single_row at l nowait clauses body
 construct_row at l constructs.Masked clauses s body = masked_row at l clauses body
 construct_row at l (constructs.Critical name) clauses s body = critical_row at l name body
-construct_row at l constructs.Atomic clauses s body = assignment_row at l s
+construct_row at l (constructs.Atomic access) clauses s body = assignment_row at l s
 construct_row at l constructs.Taskgroup clauses s body = group_row at l body
 
 -- lb, ub, starts, LOOP, G: GRAB E, I: ITER i G, body, JMP I, E: RED each, ENDW, ARRIVE, DEPART
@@ -224,9 +230,9 @@ abbrev pub loop_rest : Site → ℕ → List ResolvedClauseTree → (nowait : Bo
     → Comparison → Row
 loop_rest at l clauses nowait loop body comparison = fresh_three (λ chunk next over.
     part (value at loop.at.line loop.from) ▸ part (value at loop.at.line loop.to) ▸ part (starts at l clauses)
-    ▸ ins at l (i.Loop (form_with loop comparison))
-    ▸ here chunk ▸ ins at l (i.Grab over)
-    ▸ here next ▸ ins at l (i.Iterate (slot at loop.variable) chunk) ▸ part (body next) ▸ ins at l (i.Jump next)
+    ▸ ins at l (i.Sharing (sharings.Loop (form_with loop comparison)))
+    ▸ here chunk ▸ ins at l (i.Sharing (sharings.Grab over))
+    ▸ here next ▸ ins at l (i.Sharing (sharings.Iterate (slot at loop.variable) chunk)) ▸ part (body next) ▸ ins at l (i.Serial (serials.Jump next))
     ▸ here over ▸ closes at l clauses nowait)
 
 -- a canonical loop compares by `<`, `<=`, `>` or `>=`
@@ -237,8 +243,8 @@ loop_row at l clauses nowait loop body = given (comparison_of loop.comparison) (
 abbrev pub sections_row : Site → ℕ → ℕ → List ResolvedClauseTree → (nowait : Bool) → (List ℕ → ℕ → Row) → Row
 sections_row at l pick clauses nowait parts = λ p q. (places : List ℕ) × (grab over : ℕ) ×
     (slice_get at.picks pick ≡ Some places) ×
-    (part (starts at l clauses) ▸ ins at l (i.Sections (length places))
-    ▸ here grab ▸ ins at l (i.Grab over) ▸ ins at l (i.Pick pick) ▸ part (parts places grab)
+    (part (starts at l clauses) ▸ ins at l (i.Sharing (sharings.Sections (length places)))
+    ▸ here grab ▸ ins at l (i.Sharing (sharings.Grab over)) ▸ ins at l (i.Sharing (sharings.Pick pick)) ▸ part (parts places grab)
     ▸ here over ▸ closes at l clauses nowait) p q
 
 -- ---- regions, whose bodies stand by themselves
@@ -247,11 +253,11 @@ sections_row at l pick clauses nowait parts = λ p q. (places : List ℕ) × (gr
 abbrev pub parallel_row : Site → ℕ → ℕ → Option ResolvedExpressionTree → List FirstCopy → Row
 parallel_row at l body size copies =
     part (perhaps (value at l) size) ▸ part (each (load_original at l) copies)
-    ▸ ins at l (i.Fork body (is_some size) (length copies)) ▸ end
+    ▸ ins at l (i.Team (teams.Fork body (is_some size) (length copies))) ▸ end
 
 -- firstprivate loads, SPAWN b
 abbrev pub task_row : Site → ℕ → ℕ → List FirstCopy → Row
-task_row at l body copies = part (each (load_original at l) copies) ▸ ins at l (i.Spawn body (length copies)) ▸ end
+task_row at l body copies = part (each (load_original at l) copies) ▸ ins at l (i.Task (taskings.Spawn body (length copies))) ▸ end
 
 -- ---- the parts of `sections`
 
@@ -274,23 +280,23 @@ abbrev mutual
   statement at n (Empty first) jumps = end
   statement at n (Expression first e) jumps = effect at first.line e
   statement at n (If first c s) jumps = fresh (λ e.
-      part (value at first.line c) ▸ ins at first.line (i.JumpIfZero e) ▸ part (statement at n s jumps)
+      part (value at first.line c) ▸ ins at first.line (i.Serial (serials.JumpIfZero e)) ▸ part (statement at n s jumps)
       ▸ here e ▸ end)
   statement at n (IfElse first c s t) jumps = fresh_two (λ other e.
-      part (value at first.line c) ▸ ins at first.line (i.JumpIfZero other)
-      ▸ part (statement at n s jumps) ▸ ins at first.line (i.Jump e)
+      part (value at first.line c) ▸ ins at first.line (i.Serial (serials.JumpIfZero other))
+      ▸ part (statement at n s jumps) ▸ ins at first.line (i.Serial (serials.Jump e))
       ▸ here other ▸ part (statement at (behind n s) t jumps) ▸ here e ▸ end)
   statement at n (While first c s) jumps = fresh_two (λ again e.
-      here again ▸ part (value at first.line c) ▸ ins at first.line (i.JumpIfZero e)
-      ▸ part (statement at n s (in_loop e again)) ▸ ins at first.line (i.Jump again) ▸ here e ▸ end)
+      here again ▸ part (value at first.line c) ▸ ins at first.line (i.Serial (serials.JumpIfZero e))
+      ▸ part (statement at n s (in_loop e again)) ▸ ins at first.line (i.Serial (serials.Jump again)) ▸ here e ▸ end)
   statement at n (Do first s c) jumps = fresh_three (λ again next e.
       here again ▸ part (statement at n s (in_loop e next))
-      ▸ here next ▸ part (value at first.line c) ▸ ins at first.line (i.JumpIfZero e)
-      ▸ ins at first.line (i.Jump again) ▸ here e ▸ end)
+      ▸ here next ▸ part (value at first.line c) ▸ ins at first.line (i.Serial (serials.JumpIfZero e))
+      ▸ ins at first.line (i.Serial (serials.Jump again)) ▸ here e ▸ end)
   statement at n (For first begin c step s) jumps = fresh_three (λ again next e.
       part (start at first.line begin) ▸ here again ▸ part (perhaps (test at first.line e) c)
       ▸ part (statement at n s (in_loop e next))
-      ▸ here next ▸ part (perhaps (effect at first.line) step) ▸ ins at first.line (i.Jump again) ▸ here e ▸ end)
+      ▸ here next ▸ part (perhaps (effect at first.line) step) ▸ ins at first.line (i.Serial (serials.Jump again)) ▸ here e ▸ end)
   statement at n (Return first e) jumps = returned at first.line at.is_main e
   statement at n (Break first) jumps = given jumps.over (jump at first.line)
   statement at n (Continue first) jumps = given jumps.next (jump at first.line)
@@ -318,5 +324,5 @@ abbrev mutual
   parts at n l grab NoParts places = no_place places
   parts at n l grab (Part items rest) places =
       with_place places (λ place places.
-      here place ▸ part (statements at n items nowhere) ▸ ins at l (i.Jump grab) ▸ parts at (behind_all n items) l
+      here place ▸ part (statements at n items nowhere) ▸ ins at l (i.Serial (serials.Jump grab)) ▸ parts at (behind_all n items) l
       grab rest places)

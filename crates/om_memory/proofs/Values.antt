@@ -1,11 +1,10 @@
 -- What a memory holds, by what its trails and its other values hold.
-use Rattle.std.proofs.Common.{◌≡◌, refl, sym, ap, ◌∙◌, subst, ℕ, Bool, true, false, cond, List, Some, None, map}
+use Rattle.std.proofs.Common.{◌≡◌, refl, sym, ap, ◌∙◌, ℕ, Bool, true, false, cond, List, Some, None, map}
 use Rattle.std.specs.Prelude.{is_some, unwrap_or}
 use Rattle.std.proofs.Math.Path.{fun_ext}
 use Rattle.om_foot.specs.declared.object.Obj.{Obj}
 use Rattle.om_foot.specs.declared.object.Obj.TheVariants as obj
 use Rattle.om_foot.specs.Footprint.{obj_eq}
-use Rattle.om_foot.specs.Objects.{obj_eq-true}
 use Rattle.om_state.specs.declared.control.Control as plain_controls
 use Rattle.om_state.specs.declared.value.Val.{Val}
 use Rattle.om_state.specs.declared.value.Val.TheVariants as value
@@ -135,14 +134,6 @@ is_control (obj.Group a) w e = cc
 is_control obj.Output w e = cc
 is_control (obj.Events a) w e = cc
 
-kept_value : (b : Bool) (v w : Val) → (b ≡ true → w ≡ v) → w ≡ cond b v w
-kept_value true v w h = h refl
-kept_value false v w h = refl
-
--- a value that is put where it stands changes nothing
-pub same_put : (o : Obj) (v : Val) (s : State) → s o ≡ v → s ≡ with_value o v s
-same_put o v s h = fun_ext λ q. kept_value (obj_eq o q) v (s q) (λ e. ap s (sym (obj_eq-true o q e)) ∙ h)
-
 -- more trails, which are idle
 
 grown_at : (ts us : List TrailView) (s : State) → GrowTo ts us → (q : Obj) → held_by us s q ≡ held_by ts s q
@@ -199,14 +190,7 @@ pub read_other : {X : Type 0} (f : Val → X) (x : X) (ts : List TrailView) (s :
     → is_trailed o ≡ false → x ≡ f (s o) → x ≡ f (held_by ts s o)
 read_other f x ts s o other is = is ∙ ap f (sym (value_there ts s o other))
 
--- what changes no control changes nothing there
-pub control_stays : (f : Val → Val) (ts : List TrailView) (s : State) (o : Obj) (w : ℕ) → worker_of o ≡ Some w
-    → ((c : plain_controls.Control) → value.Control c ≡ f (value.Control c))
-    → held_by ts s ≡ with_value o (f (held_by ts s o)) (held_by ts s)
-control_stays f ts s o w e h = same_put o (f (held_by ts s o)) (held_by ts s)
-    (subst (λ q. held_by ts s q ≡ f (held_by ts s q)) (sym (is_control o w e)) (h _))
-
--- and what changes another value
+-- and what changes its value
 pub value_changed : (f : Val → Val) (ts : List TrailView) (s t : State) (o : Obj) → is_trailed o ≡ false
     → t ≡ with_value o (f (s o)) s → held_by ts t ≡ with_value o (f (held_by ts s o)) (held_by ts s)
 value_changed f ts s t o other is =

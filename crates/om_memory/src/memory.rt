@@ -98,12 +98,29 @@ impl Memory {
         matches!(self.control(worker), None | Some(Control::Idle))
     }
 
+    // What an object that is no control holds, where it is kept; `None` stands for the default.
+    fn value(&self, object: &Obj) -> Option<&Val>
+        requires { is_trailed object.now ≡ false }
+        ensures { unwrap_or (option_copied result) (default_of object.now)
+            ≡ state_of self.now object.now }
+    {
+        self.values.get(object)
+    }
+
     /// The cell that a cell of a variable holds.
     pub fn cell(&self, alloc: Global, object: &Obj) -> Cell
         requires { is_trailed object.now ≡ false }
         ensures { result ≡ cell_in (state_of self.now object.now) }
     {
-        self.values.cell(alloc, object)
+        match self.value(object) {
+            Some(value) => value.cell(),
+            None => {
+                let value = Val::default_at(alloc, object);
+                let cell = value.cell();
+                drop(value);
+                cell
+            }
+        }
     }
 
     /// The task of a name; `None` stands for one that was never made.
@@ -111,7 +128,7 @@ impl Memory {
         ensures { unwrap_or (option_copied result) task.Absent
             ≡ task_in (state_of self.now (obj.Task name.now)) }
     {
-        self.values.task(name)
+        self.value(&Obj::Task(*name))?.task()
     }
 
     /// The names of all tasks that are ready to be begun, ascending. Its only error is out of
@@ -135,14 +152,22 @@ impl Memory {
         requires { is_trailed object.now ≡ false }
         ensures { result ≡ number_in (state_of self.now object.now) }
     {
-        self.values.number(alloc, object)
+        match self.value(object) {
+            Some(value) => value.number(),
+            None => {
+                let value = Val::default_at(alloc, object);
+                let number = value.number();
+                drop(value);
+                number
+            }
+        }
     }
 
     /// The worker that holds the lock of this number, if one does.
     pub fn holder(&self, lock: u32) -> Option<u8>
         ensures { result ≡ holder_in (state_of self.now (obj.Lock lock)) }
     {
-        self.values.holder(lock)
+        self.value(&Obj::Lock(lock))?.holder()
     }
 
     /// The count that an object that is no control holds, if it holds one.
@@ -150,7 +175,15 @@ impl Memory {
         requires { is_trailed object.now ≡ false }
         ensures { result ≡ count_of (state_of self.now object.now) }
     {
-        self.values.count(alloc, object)
+        match self.value(object) {
+            Some(value) => value.count(),
+            None => {
+                let value = Val::default_at(alloc, object);
+                let count = value.count();
+                drop(value);
+                count
+            }
+        }
     }
 
     /// How many items the output or a worker's events hold.
@@ -159,7 +192,18 @@ impl Memory {
         requires kept { is_kept self.now object.now ≡ true }
         ensures { result ≡ items_of (state_of self.now object.now) }
     {
-        self.values.items(object)
+        self.values.kept(object).items()
+    }
+
+    // A copy of what an object that is no control holds.
+    fn copy_value(&self, alloc: Global, object: &Obj) -> AllocResult<Val>
+        requires { is_trailed object.now ≡ false }
+        ensures { IfOk result (λ value. value ≡ state_of self.now object.now) }
+    {
+        match self.value(object) {
+            Some(value) => value.copy(alloc),
+            None => Ok(Val::default_at(alloc, object)),
+        }
     }
 
     /// A copy of what an object holds; its only error is out of memory.
@@ -167,7 +211,7 @@ impl Memory {
         ensures { IfOk result (λ value. value ≡ state_of self.now object.now) }
     {
         let Some(worker) = worker_of(object) else {
-            return self.values.copy_at(alloc, object);
+            return self.copy_value(alloc, object);
         };
         let Some(control) = self.control(worker) else {
             return Ok(Val::Control(SharedControl::idle()));
@@ -317,8 +361,10 @@ impl Memory {
         self.values.put_present(object, value)
     }
 
-    /// Adds to the count at an object that is kept; another value stays. It takes no memory.
+    /// Adds to the count at an object that is no control and is kept; another value stays. It takes no
+    /// memory.
     pub fn add(&mut self, object: &Obj, number: i128)
+        requires no_control { is_trailed object.now ≡ false }
         requires kept { is_kept self.old object.now ≡ true }
         requires fits { SumFits (state_of self.old object.now) number }
         ensures state { state_of self.new
@@ -327,14 +373,13 @@ impl Memory {
         ensures pasts { pasts_of self.new ≡ pasts_of self.old }
         ensures kept { (q : Obj) → is_kept self.new q ≡ is_kept self.old q }
     {
-        match worker_of(object) {
-            Some(_) => {}
-            None => self.values.add(object, number),
-        }
+        self.values.add(object, number);
     }
 
-    /// Takes from the count at an object that is kept; another value stays. It takes no memory.
+    /// Takes from the count at an object that is no control and is kept; another value stays. It takes no
+    /// memory.
     pub fn subtract(&mut self, object: &Obj, number: i128)
+        requires no_control { is_trailed object.now ≡ false }
         requires kept { is_kept self.old object.now ≡ true }
         requires fits { SumFits (state_of self.old object.now) (neg_ℤ number) }
         ensures state { state_of self.new
@@ -343,10 +388,7 @@ impl Memory {
         ensures pasts { pasts_of self.new ≡ pasts_of self.old }
         ensures kept { (q : Obj) → is_kept self.new q ≡ is_kept self.old q }
     {
-        match worker_of(object) {
-            Some(_) => {}
-            None => self.values.subtract(object, number),
-        }
+        self.values.subtract(object, number);
     }
 
     /// Appends to the output or to events at an object that is no control and is kept; another value

@@ -13,7 +13,7 @@ use Rattle.om_code.specs.declared.frame.Operand.{Operand}
 use Rattle.om_code.specs.declared.frame.Operand.TheVariants as operand
 use Rattle.om_code.specs.declared.raw.Raw.{Raw}
 use Rattle.om_code.specs.declared.raw.Slot.{Slot}
-use Rattle.om_code.specs.declared.serial.Turn.TheVariants.{Returns, Finishes}
+use Rattle.om_code.specs.declared.act.Turn.TheVariants.{Returns, Finishes}
 use Rattle.om_code.specs.Frames as frames
 use Rattle.om_code.specs.Frames.{Frame, acted, on_int, decided, cells_in}
 use Rattle.om_code.specs.Places.{slots_of}
@@ -34,7 +34,7 @@ use Rattle.om_state.specs.Rules.{control_access}
 use Rattle.om_state.specs.State.{State, state_after, updated}
 use Rattle.om_team_serial.specs.Objects.{read, events, event, own_slot, own_from, own_cells, home_at, deaths}
 use Rattle.om_team_serial.specs.SerialRows.{return_row}
-use Rattle.om_team.specs.Rows.{finished_row, finished}
+use Rattle.om_team_serial.specs.Ends.{finished_row, finished}
 use Rattle.om_team_serial.specs.Rows.{is_zero}
 use Rattle.om_lower_rules.specs.Running.{world_of}
 use Rattle.om_soundness.specs.Alone.{Shows, Keeps, OwnsCells, dead, next_of}

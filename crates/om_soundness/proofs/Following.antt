@@ -9,7 +9,7 @@ use Rattle.om_code.specs.declared.raw.Line.{Line}
 use Rattle.om_code.specs.declared.raw.Raw.{Raw}
 use Rattle.om_code.specs.declared.raw.Slot.{Slot}
 use Rattle.om_code.specs.Frames as frames
-use Rattle.om_code.specs.Frames.{Frame, FrameTurn, act, acted, frame_turn, turn_at}
+use Rattle.om_code.specs.Frames.{Frame, FrameTurn, act_at, acted, frame_turn, turn_at}
 use Rattle.om_code.specs.Places.{slots_of, instruction_at}
 use Rattle.om_code.specs.Validity.{IsKnown, NamesKnown}
 use Rattle.om_state.specs.declared.control.Control.{Control}
@@ -21,7 +21,7 @@ use Rattle.om_state.specs.Rules.{step_at, next_state, state_after_outcome, and_t
 use Rattle.om_state.specs.State.{State, values_read}
 use Rattle.om_state.specs.Values.{control_in, count_in}
 use Rattle.om_task.specs.Rules.{rules_of, further_in, outcome_of, next_row}
-use Rattle.om_team.specs.Sites.{site}
+use Rattle.om_team_serial.specs.Sites.{site}
 use Rattle.om_lower_rules.specs.Running.{on_from, run, world_of}
 use Rattle.om_lower_rules.specs.Worlds.{World}
 use Rattle.om_soundness.specs.Alone.{Shows, Keeps, OwnsCells, next_of, stack_at}
@@ -74,7 +74,7 @@ module _ (program : Raw) (workers worker : ℕ) (stack : Stack) where
         subst (λ slots. Leaves program worker stack s s
         (behind_asked program worker stack s s f
         (next_row (site program workers worker (stack_at stack f.place f.operands)) (Some line.instruction)))
-        (acted program f (act program slots line.instruction f.operands))) slots_are
+        (acted program f (act_at program slots line.instruction f.operands))) slots_are
         (instruction_leaves program workers worker stack s s f shows (λ q h. refl) owns
         (subst (All (λ (slot : Slot). 1 ≤ slot.cells)) (sym slots_are) known.cells) line.instruction
         (subst (λ slots. NamesKnown program slots line.instruction) (sym slots_are)

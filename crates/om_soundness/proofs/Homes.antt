@@ -19,7 +19,7 @@ use Rattle.om_state.specs.declared.control.Home.{Home}
 use Rattle.om_state.specs.declared.control.Home.TheVariants as home
 use Rattle.om_state.specs.declared.control.Frame.{Frame}
 use Rattle.om_team_serial.specs.Objects.{home_at, home_from, home_for, homes_for}
-use Rattle.om_team.specs.Sites.{body_of}
+use Rattle.om_team_serial.specs.Sites.{body_of}
 use Rattle.om_soundness.specs.Standing.{Owned, FitsHome, FitHomes, IsStandingFrame}
 
 -- the own slots of the frame that runs in a context have their cells

@@ -11,7 +11,7 @@ use Rattle.om_code.specs.declared.frame.Fault.{Fault}
 use Rattle.om_code.specs.declared.frame.Operand.{Operand}
 use Rattle.om_code.specs.declared.frame.Operand.TheVariants as operand
 use Rattle.om_code.specs.declared.instruction.AtomicOperator.{AtomicOperator}
-use Rattle.om_code.specs.declared.instruction.Instr.TheVariants as i
+use Rattle.om_code.specs.declared.instruction.Serial.TheVariants as serials
 use Rattle.om_code.specs.declared.instruction.Place.{Place}
 use Rattle.om_code.specs.declared.instruction.Place.TheVariants as place
 use Rattle.om_code.specs.declared.instruction.Side.{Side}
@@ -114,45 +114,45 @@ module _ (raw : Raw) (slots : List Slot) where
 
     -- the acts of instructions that stay in their frame, but for CLEAR and PRINT
     module _ (s : List Operand) where
-      pub duplicate_fits : Fits raw slots (act raw slots i.Duplicate s)
+      pub duplicate_fits : Fits raw slots (act raw slots serials.Duplicate s)
       duplicate_fits = on_operand_fits (slice_get s 0) (λ x. decided (goes 0 (Some x))) (λ x. ((λ c. tt), tt))
 
-      pub pop_fits : Fits raw slots (act raw slots i.Pop s)
+      pub pop_fits : Fits raw slots (act raw slots serials.Pop s)
       pop_fits = on_operand_fits (slice_get s 0) (λ x. decided (goes 1 None)) (λ x. ((λ c. tt), tt))
 
-      pub unary_fits : (o : UnaryOperator) → Fits raw slots (act raw slots (i.Unary o) s)
+      pub unary_fits : (o : UnaryOperator) → Fits raw slots (act raw slots (serials.Unary o) s)
       unary_fits o = on_int_fits (int_at 0 s) (λ a. decided (gives 1 (operate_on_one o a)))
           (λ a. ((λ c. gives_still 1 (operate_on_one o a)), tt))
 
-      pub binary_fits : (o : BinaryOperator) → Fits raw slots (act raw slots (i.Binary o) s)
+      pub binary_fits : (o : BinaryOperator) → Fits raw slots (act raw slots (serials.Binary o) s)
       binary_fits o =
           on_ints_fits (int_at 1 s) (int_at 0 s) (λ a b. decided (gives 2 (operate o a b)))
           (λ a b. ((λ c. gives_still 2 (operate o a b)), tt))
 
-      pub jump_fits : (target : ℕ) → Fits raw slots (act raw slots (i.JumpIfZero target) s)
+      pub jump_fits : (target : ℕ) → Fits raw slots (act raw slots (serials.JumpIfZero target) s)
       jump_fits target =
           on_int_fits (int_at 0 s) (λ a. decided (jump_if (int_eq a (pos 0)) target))
           (λ a. ((λ c. jump_still (int_eq a (pos 0)) target), tt))
 
-      pub use_fits : Fits raw slots (act raw slots i.Use s)
+      pub use_fits : Fits raw slots (act raw slots serials.Use s)
       use_fits = on_operand_fits (slice_get s 0) (λ x. decided (used x)) (λ x. ((λ c. used_still x), tt))
 
-      pub load_fits : (p : Place) → IsKnownPlace raw.globals slots p → Fits raw slots (act raw slots (i.Load p) s)
+      pub load_fits : (p : Place) → IsKnownPlace raw.globals slots p → Fits raw slots (act raw slots (serials.Load p) s)
       load_fits p known = ((scalar_inside p known, λ c. loaded_still 0 c), tt)
 
       pub store_fits : (p : Place) (keeps : Bool) → IsKnownPlace raw.globals slots p
-          → Fits raw slots (act raw slots (i.Store p keeps) s)
+          → Fits raw slots (act raw slots (serials.Store p keeps) s)
       store_fits p keeps known =
           on_int_fits (int_at 0 s) (λ a. writes p 0 (stored (left_by keeps) None a))
           (λ a. ((scalar_inside p known, λ c. stored_onward (left_by keeps) None a c), tt))
 
-      pub load_element_fits : (p : Place) → Fits raw slots (act raw slots (i.LoadElement p) s)
+      pub load_element_fits : (p : Place) → Fits raw slots (act raw slots (serials.LoadElement p) s)
       load_element_fits p =
           on_int_fits (int_at 0 s) (λ n. at_index (index_in (cells_in raw slots p) n) (λ k. reads p k (loaded 1)))
           (λ n. at_index_fits (index_in (cells_in raw slots p) n) (λ k. reads p k (loaded 1))
           (λ k e. ((element_inside p n k e, λ c. loaded_still 1 c), tt)))
 
-      pub store_element_fits : (p : Place) (keeps : Bool) → Fits raw slots (act raw slots (i.StoreElement p keeps) s)
+      pub store_element_fits : (p : Place) (keeps : Bool) → Fits raw slots (act raw slots (serials.StoreElement p keeps) s)
       store_element_fits p keeps =
           on_ints_fits (int_at 1 s) (int_at 0 s)
           (λ n a. at_index (index_in (cells_in raw slots p) n) (λ k. writes p k (stored 2 (kept keeps a) a)))
@@ -160,13 +160,13 @@ module _ (raw : Raw) (slots : List Slot) where
           (λ k e. ((element_inside p n k e, λ c. stored_onward 2 (kept keeps a) a c), tt)))
 
       pub atomic_fits : (o : AtomicOperator) (side : Side) (p : Place) → IsKnownPlace raw.globals slots p
-          → Fits raw slots (act raw slots (i.Atomic o side p) s)
+          → Fits raw slots (act raw slots (serials.Atomic o side p) s)
       atomic_fits o side p known =
           on_int_fits (int_at 0 s) (λ a. writes p 0 (updated 1 o side a))
           (λ a. ((scalar_inside p known, λ c. updated_onward 1 o side a c), tt))
 
       pub atomic_element_fits : (o : AtomicOperator) (side : Side) (p : Place)
-          → Fits raw slots (act raw slots (i.AtomicElement o side p) s)
+          → Fits raw slots (act raw slots (serials.AtomicElement o side p) s)
       atomic_element_fits o side p =
           on_ints_fits (int_at 1 s) (int_at 0 s)
           (λ n a. at_index (index_in (cells_in raw slots p) n) (λ k. writes p k (updated 2 o side a)))

@@ -10,6 +10,11 @@ use Rattle.om_foot.specs.declared.object.Obj.TheVariants as obj
 use Rattle.om_code.specs.declared.frame.Operand.TheVariants.{Int, NoValue}
 use Rattle.om_code.specs.declared.instruction.Instr.{Instr}
 use Rattle.om_code.specs.declared.instruction.Instr.TheVariants as i
+use Rattle.om_code.specs.declared.instruction.Function.TheVariants as calls
+use Rattle.om_code.specs.declared.instruction.Team.TheVariants as teams
+use Rattle.om_code.specs.declared.instruction.Sharing.TheVariants as sharings
+use Rattle.om_code.specs.declared.instruction.Region.TheVariants as regionals
+use Rattle.om_code.specs.declared.instruction.Task.TheVariants as taskings
 use Rattle.om_code.specs.declared.raw.Body.{Body}
 use Rattle.om_code.specs.declared.raw.GlobalVariable.{GlobalVariable}
 use Rattle.om_code.specs.declared.raw.Line.{Line}
@@ -35,7 +40,7 @@ use Rattle.om_team_serial.specs.declared.row.Row.{Row}
 use Rattle.om_team_serial.specs.declared.row.Row.TheVariants as row
 use Rattle.om_team_serial.specs.Objects.{innermost}
 use Rattle.om_team_worksharing.specs.Rows.{share_in}
-use Rattle.om_team.specs.Sites.{Site, site, context, operands, next, slots, line, launch, body_of, lock_of, targets_of}
+use Rattle.om_team_serial.specs.Sites.{Site, site, context, operands, next, slots, line, launch, body_of, lock_of, targets_of}
 use Rattle.om_task.specs.Rules.{rules_of, start_of, first_context, initial_in, choice_row, leaving, admits_all}
 use Rattle.om_task.specs.Rules.{further_in, row_in, outcome_after}
 use Rattle.om_task.specs.Table.{row_of}
@@ -79,91 +84,65 @@ thread_int team m = lt-ltb team.number (2 ^ 31) (omega (arith, m.number, m.size)
 
 instruction_ints : (s : Site) (instr : Instr) (values : List Val) → HasIntConstant instr → AreFew s.workers
     → StackHasInts s.stack → All ValueHasInts values → AskedHasInts (row_of s instr) values
-instruction_ints s i.ThreadNumber values k few h v = ((thread_int (context s).team h.0.3, tt), tt)
-instruction_ints s i.TeamSize values k few h v = ((lt-ltb (context s).team.size (2 ^ 31) h.0.3.size, tt), tt)
-instruction_ints s (i.Call body count) values k few h v =
+instruction_ints s (i.Team teams.ThreadNumber) values k few h v = ((thread_int (context s).team h.0.3, tt), tt)
+instruction_ints s (i.Team teams.TeamSize) values k few h v = ((lt-ltb (context s).team.size (2 ^ 31) h.0.3.size, tt), tt)
+instruction_ints s (i.Function (calls.Call body count)) values k few h v =
     call_ints (launch s count body) (body_of s.program body) (context s) (ints_on count (operands s)) values
     (on_ints count (operands s) h.0.0)
-instruction_ints s i.Return values k few h v =
+instruction_ints s (i.Function calls.Return) values k few h v =
     return_ints (context s) (slots s) (context s).callers (option_map Int (int_at 0 (operands s))) values
     (as_operand (int_at 0 (operands s)) (at_int 0 (operands s) h.0.0))
-instruction_ints s i.ReturnNothing values k few h v =
+instruction_ints s (i.Function calls.ReturnNothing) values k few h v =
     return_ints (context s) (slots s) (context s).callers (Some NoValue) values tt
-instruction_ints s (i.Reduce reduction copy place) values k few h v =
+instruction_ints s (i.Sharing (sharings.Reduce reduction copy place)) values k few h v =
     reduce_ints (context s) reduction copy place values v
-instruction_ints s (i.Fork body true count) values k few h v =
+instruction_ints s (i.Team (teams.Fork body true count)) values k few h v =
     fork_ints s.worker s.workers (launch s (count + 1) body) (body_of s.program body) (context s) true
     (int_at count (operands s)) (ints_on count (operands s)) values few (on_ints count (operands s) h.0.0)
-instruction_ints s (i.Fork body false count) values k few h v =
+instruction_ints s (i.Team (teams.Fork body false count)) values k few h v =
     fork_ints s.worker s.workers (launch s count body) (body_of s.program body) (context s) false
     (int_at count (operands s)) (ints_on count (operands s)) values few (on_ints count (operands s) h.0.0)
-instruction_ints s i.Begin values k few h v = ((tt, tt), (tt, tt))
-instruction_ints s (i.Arrive barrier) values k few h v = arrive_ints s.worker (next s) barrier (context s) values
-instruction_ints s (i.Depart barrier) values k few h v = depart_ints s.worker (next s) barrier (context s) values
-instruction_ints s i.Leave values k few h v =
+instruction_ints s (i.Team teams.Begin) values k few h v = ((tt, tt), (tt, tt))
+instruction_ints s (i.Team (teams.Arrive barrier)) values k few h v = arrive_ints s.worker (next s) barrier (context s) values
+instruction_ints s (i.Team (teams.Depart barrier)) values k few h v = depart_ints s.worker (next s) barrier (context s) values
+instruction_ints s (i.Team teams.Leave) values k few h v =
     leave_ints s.worker (context s) s.stack.below (slots s) (context s).kind (context s).team.number values
-instruction_ints s (i.Loop form) values k few h v =
+instruction_ints s (i.Sharing (sharings.Loop form)) values k few h v =
     loop_row_ints s.worker (next s) (context s) form (int_at 1 (operands s)) (int_at 0 (operands s)) values
     (at_int 1 (operands s) h.0.0) (at_int 0 (operands s) h.0.0)
-instruction_ints s (i.Sections count) values k few h v = sections_ints s.worker (next s) (context s) count values
-instruction_ints s (i.Grab otherwise) values k few h v =
+instruction_ints s (i.Sharing (sharings.Sections count)) values k few h v = sections_ints s.worker (next s) (context s) count values
+instruction_ints s (i.Sharing (sharings.Grab otherwise)) values k few h v =
     grab_ints (next s) otherwise (context s) (share_in (context s)) values
     (innermost_ints (context s).constructs h.0.2)
-instruction_ints s (i.Iterate slot otherwise) values k few h v =
+instruction_ints s (i.Sharing (sharings.Iterate slot otherwise)) values k few h v =
     iterate_ints (next s) otherwise (context s) slot (share_in (context s)) values
     (innermost_ints (context s).constructs h.0.2)
-instruction_ints s (i.Pick list) values k few h v =
+instruction_ints s (i.Sharing (sharings.Pick list)) values k few h v =
     pick_ints (targets_of s.program list) (share_in (context s)) values
-instruction_ints s (i.Single otherwise) values k few h v =
+instruction_ints s (i.Sharing (sharings.Single otherwise)) values k few h v =
     single_ints s.worker (next s) otherwise (context s) values
-instruction_ints s i.EndWorksharing values k few h v =
+instruction_ints s (i.Sharing sharings.EndWorksharing) values k few h v =
     end_worksharing_ints s.worker (next s) (context s) (innermost (context s).constructs) values
-instruction_ints s (i.Masked otherwise) values k few h v =
+instruction_ints s (i.Region (regionals.Masked otherwise)) values k few h v =
     masked_ints s.worker (next s) otherwise (context s) (int_at 0 (operands s)) values
-instruction_ints s i.EndMasked values k few h v =
+instruction_ints s (i.Region regionals.EndMasked) values k few h v =
     end_masked_ints s.worker (next s) (context s) (innermost (context s).constructs) values
-instruction_ints s (i.AskCritical lock) values k few h v = ((tt, tt), (tt, tt))
-instruction_ints s (i.EnterCritical lock) values k few h v =
+instruction_ints s (i.Region (regionals.AskCritical lock)) values k few h v = ((tt, tt), (tt, tt))
+instruction_ints s (i.Region (regionals.EnterCritical lock)) values k few h v =
     enter_critical_ints s.worker (next s) lock (lock_of s.program lock) values
-instruction_ints s (i.LeaveCritical lock) values k few h v =
+instruction_ints s (i.Region (regionals.LeaveCritical lock)) values k few h v =
     leave_critical_ints s.worker (next s) lock (lock_of s.program lock) (innermost (context s).constructs) values
-instruction_ints s (i.Spawn body count) values k few h v =
+instruction_ints s (i.Task (taskings.Spawn body count)) values k few h v =
     spawn_ints (record { worker = s.worker; line = line s; launch = launch s count body }) (body_of s.program body)
     (context s) values h.0.0
-instruction_ints s i.TaskEnd values k few h v = task_end_ints s.worker s.stack (slots s) values
-instruction_ints s i.WaitBegin values k few h v = ((tt, tt), (tt, tt))
-instruction_ints s i.WaitEnd values k few h v = wait_end_ints s.worker (next s) (context s) values
-instruction_ints s i.Yield values k few h v = ((tt, tt), tt)
-instruction_ints s i.GroupBegin values k few h v = group_begin_ints s.worker (next s) (context s) values
-instruction_ints s i.GroupEnd values k few h v = group_end_ints s.worker (next s) (context s) values
-instruction_ints s (i.Finish has_value) values k few h v = finish_ints s.worker (context s) has_value values
-instruction_ints s (i.Constant n) values k few h v = serial_ints s.program (context s) (i.Constant n) values k h.0.0 v
-instruction_ints s i.Duplicate values k few h v = serial_ints s.program (context s) i.Duplicate values k h.0.0 v
-instruction_ints s i.Pop values k few h v = serial_ints s.program (context s) i.Pop values k h.0.0 v
-instruction_ints s i.Nop values k few h v = serial_ints s.program (context s) i.Nop values k h.0.0 v
-instruction_ints s i.Use values k few h v = serial_ints s.program (context s) i.Use values k h.0.0 v
-instruction_ints s (i.Unary o) values k few h v = serial_ints s.program (context s) (i.Unary o) values k h.0.0 v
-instruction_ints s (i.Binary o) values k few h v = serial_ints s.program (context s) (i.Binary o) values k h.0.0 v
-instruction_ints s (i.Jump target) values k few h v =
-    serial_ints s.program (context s) (i.Jump target) values k h.0.0 v
-instruction_ints s (i.JumpIfZero target) values k few h v =
-    serial_ints s.program (context s) (i.JumpIfZero target) values k h.0.0 v
-instruction_ints s (i.Load place) values k few h v =
-    serial_ints s.program (context s) (i.Load place) values k h.0.0 v
-instruction_ints s (i.Store place keeps) values k few h v =
-    serial_ints s.program (context s) (i.Store place keeps) values k h.0.0 v
-instruction_ints s (i.LoadElement place) values k few h v =
-    serial_ints s.program (context s) (i.LoadElement place) values k h.0.0 v
-instruction_ints s (i.StoreElement place keeps) values k few h v =
-    serial_ints s.program (context s) (i.StoreElement place keeps) values k h.0.0 v
-instruction_ints s (i.Clear slot) values k few h v =
-    serial_ints s.program (context s) (i.Clear slot) values k h.0.0 v
-instruction_ints s (i.Print text count) values k few h v =
-    serial_ints s.program (context s) (i.Print text count) values k h.0.0 v
-instruction_ints s (i.Atomic o side place) values k few h v =
-    serial_ints s.program (context s) (i.Atomic o side place) values k h.0.0 v
-instruction_ints s (i.AtomicElement o side place) values k few h v =
-    serial_ints s.program (context s) (i.AtomicElement o side place) values k h.0.0 v
+instruction_ints s (i.Task taskings.TaskEnd) values k few h v = task_end_ints s.worker s.stack (slots s) values
+instruction_ints s (i.Task taskings.WaitBegin) values k few h v = ((tt, tt), (tt, tt))
+instruction_ints s (i.Task taskings.WaitEnd) values k few h v = wait_end_ints s.worker (next s) (context s) values
+instruction_ints s (i.Task taskings.Yield) values k few h v = ((tt, tt), tt)
+instruction_ints s (i.Task taskings.GroupBegin) values k few h v = group_begin_ints s.worker (next s) (context s) values
+instruction_ints s (i.Task taskings.GroupEnd) values k few h v = group_end_ints s.worker (next s) (context s) values
+instruction_ints s (i.Function (calls.Finish has_value)) values k few h v = finish_ints s.worker (context s) has_value values
+instruction_ints s (i.Serial x) values k few h v = serial_ints s.program (context s) x values k h.0.0 v
 
 choice_ints : (s : Site) (o : Option Instr) (choice : Choice) (values : List Val) → IfSome o HasIntConstant
     → AreFew s.workers → StackHasInts s.stack → All ValueHasInts values → AskedHasInts (choice_row s o choice) values

@@ -34,7 +34,7 @@ use Rattle.om_team_serial.specs.SerialRows.{call_row, return_row, put_combined, 
 use Rattle.om_team_worksharing.specs.Barriers.{is_open}
 use Rattle.om_team.specs.Teams.{first_busy, member, member_controls, member_puts, size_of}
 use Rattle.om_team.specs.Rows.{forked, team_of, named_row, sized_row, fork_row}
-use Rattle.om_team.specs.Rows.{value_of, finished, finished_row, finish_row}
+use Rattle.om_team_serial.specs.Ends.{value_of, finished, finished_row, finish_row}
 use Rattle.om_team_worksharing.specs.Rows.{is_misplaced_barrier, arrive_row, kept, departed, depart_row, left, leave_row}
 use Rattle.om_task.specs.declared.task_start.Starting.{Starting}
 use Rattle.om_task.specs.declared.task.Making.{Making}

@@ -8,15 +8,16 @@ use Rattle.om_code.specs.declared.frame.Fault.{Fault}
 use Rattle.om_code.specs.declared.frame.Operand.{Operand}
 use Rattle.om_code.specs.declared.frame.Operand.TheVariants as operand
 use Rattle.om_code.specs.declared.instruction.AtomicOperator.{AtomicOperator}
-use Rattle.om_code.specs.declared.instruction.Instr.{Instr}
 use Rattle.om_code.specs.declared.instruction.Instr.TheVariants as i
+use Rattle.om_code.specs.declared.instruction.Serial.{Serial}
+use Rattle.om_code.specs.declared.instruction.Serial.TheVariants as serials
 use Rattle.om_code.specs.declared.instruction.Side.{Side}
 use Rattle.om_code.specs.declared.raw.Raw.{Raw}
 use Rattle.om_code.specs.declared.raw.Slot.{Slot}
-use Rattle.om_code.specs.declared.serial.Touch.{Touch}
-use Rattle.om_code.specs.declared.serial.Touch.TheVariants as touch
-use Rattle.om_code.specs.declared.serial.Turn.{Turn}
-use Rattle.om_code.specs.declared.serial.Turn.TheVariants as turn
+use Rattle.om_code.specs.Frames.{Touch}
+use Rattle.om_code.specs.Frames as touch
+use Rattle.om_code.specs.declared.act.Turn.{Turn}
+use Rattle.om_code.specs.declared.act.Turn.TheVariants as turn
 use Rattle.om_code.specs.Arithmetic.{operate, operate_on_one, update}
 use Rattle.om_code.specs.Frames.{Act, act, on_operand, on_int, on_ints, at_index, int_at, gives, put, loaded, stored}
 use Rattle.om_code.specs.Frames.{updated, cells_in, index_in, used, jump_if, left_by, kept, print}
@@ -127,49 +128,43 @@ print_ints : (text values : ℕ) (vs : Option (List ℤ)) → ActHasInts (print 
 print_ints text values None = record { turns = λ c r. tt }
 print_ints text values (Some vs) = record { turns = λ c r. (tt, tt) }
 
-act_ints : (program : Raw) (slots : List Slot) (instr : Instr) (s : List Operand) → HasIntConstant instr
+act_ints : (program : Raw) (slots : List Slot) (instr : Serial) (s : List Operand) → HasIntConstant (i.Serial instr)
     → All IsIntOperand s → ActHasInts (act program slots instr s)
-act_ints program slots (i.Constant v) s k h = record { turns = λ c r. (k, tt) }
-act_ints program slots i.Duplicate s k h =
+act_ints program slots (serials.Constant v) s k h = record { turns = λ c r. (k, tt) }
+act_ints program slots serials.Duplicate s k h =
     with_operand (slice_get s 0) _ (found_one IsIntOperand s 0 h) (λ a g. record { turns = λ c r. (g, tt) })
-act_ints program slots i.Pop s k h =
+act_ints program slots serials.Pop s k h =
     with_operand (slice_get s 0) _ (found_one IsIntOperand s 0 h) (λ a g. record { turns = λ c r. (tt, tt) })
-act_ints program slots i.Use s k h =
+act_ints program slots serials.Use s k h =
     with_operand (slice_get s 0) _ (found_one IsIntOperand s 0 h) (λ a g. record { turns = λ c r. used_int a })
-act_ints program slots i.Nop s k h = record { turns = λ c r. (tt, tt) }
-act_ints program slots (i.Unary o) s k h =
+act_ints program slots serials.Nop s k h = record { turns = λ c r. (tt, tt) }
+act_ints program slots (serials.Unary o) s k h =
     with_int (int_at 0 s) _ (at_int 0 s h)
     (λ a g. record { turns = λ c r. gives_int 1 (operate_on_one o a) (operate_on_one_int o a) })
-act_ints program slots (i.Binary o) s k h =
+act_ints program slots (serials.Binary o) s k h =
     with_ints (int_at 1 s) (int_at 0 s) _ (at_int 1 s h) (at_int 0 s h)
     (λ a b f g. record { turns = λ c r. gives_int 2 (operate o a b) (operate_int o a b g) })
-act_ints program slots (i.Jump target) s k h = record { turns = λ c r. (tt, tt) }
-act_ints program slots (i.JumpIfZero target) s k h =
+act_ints program slots (serials.Jump target) s k h = record { turns = λ c r. (tt, tt) }
+act_ints program slots (serials.JumpIfZero target) s k h =
     with_int (int_at 0 s) _ (at_int 0 s h) (λ a g. record { turns = λ c r. jump_int (int_eq a (pos 0)) target })
-act_ints program slots (i.Load place) s k h = record { turns = λ c r. loaded_int 0 c r }
-act_ints program slots (i.Store place keeps) s k h =
+act_ints program slots (serials.Load place) s k h = record { turns = λ c r. loaded_int 0 c r }
+act_ints program slots (serials.Store place keeps) s k h =
     with_int (int_at 0 s) _ (at_int 0 s h) (λ a g. record { turns = λ c r. stored_int (left_by keeps) None a c tt g })
-act_ints program slots (i.LoadElement place) s k h =
+act_ints program slots (serials.LoadElement place) s k h =
     with_int (int_at 0 s) _ (at_int 0 s h)
     (λ a g. with_index (index_in (cells_in program slots place) a) _ (λ n. record { turns = λ c r. loaded_int 1 c r }))
-act_ints program slots (i.StoreElement place keeps) s k h =
+act_ints program slots (serials.StoreElement place keeps) s k h =
     with_ints (int_at 1 s) (int_at 0 s) _ (at_int 1 s h) (at_int 0 s h)
     (λ a b f g. with_index (index_in (cells_in program slots place) a) _
     (λ n. record { turns = λ c r. stored_int 2 (kept keeps b) b c (kept_int keeps b g) g }))
-act_ints program slots (i.Clear slot) s k h = record { turns = λ c r. (tt, tt) }
-act_ints program slots (i.Print text values) s k h = print_ints text values (ints_on values s)
-act_ints program slots (i.Atomic o side place) s k h =
+act_ints program slots (serials.Clear slot) s k h = record { turns = λ c r. (tt, tt) }
+act_ints program slots (serials.Print text values) s k h = print_ints text values (ints_on values s)
+act_ints program slots (serials.Atomic o side place) s k h =
     with_int (int_at 0 s) _ (at_int 0 s h) (λ a g. record { turns = λ c r. updated_int 1 o side a c g r })
-act_ints program slots (i.AtomicElement o side place) s k h =
+act_ints program slots (serials.AtomicElement o side place) s k h =
     with_ints (int_at 1 s) (int_at 0 s) _ (at_int 1 s h) (at_int 0 s h)
     (λ a b f g. with_index (index_in (cells_in program slots place) a) _
     (λ n. record { turns = λ c r. updated_int 2 o side b c g r }))
-act_ints program slots i.Return s k h =
-    with_int (int_at 0 s) _ (at_int 0 s h) (λ a g. record { turns = λ c r. tt })
-act_ints program slots (i.Finish true) s k h =
-    with_int (int_at 0 s) _ (at_int 0 s h) (λ a g. record { turns = λ c r. tt })
-act_ints program slots (i.Finish false) s k h = record { turns = λ c r. tt }
-act_ints program slots _ s k h = record { turns = λ c r. tt }
 
 -- ---- rows
 
@@ -202,7 +197,7 @@ touch_ints program c t (touch.Clears slot) values v h =
 touch_ints program c t (touch.Prints text count) values v h =
     turn_ints (c.frame.next + 1) _ (t cell.Unset) (h cell.Unset tt) (tt, tt)
 
-pub serial_ints : (program : Raw) (c : Context) (instr : Instr) (values : List Val) → HasIntConstant instr
+pub serial_ints : (program : Raw) (c : Context) (instr : Serial) (values : List Val) → HasIntConstant (i.Serial instr)
     → FrameHasInts c.frame → All ValueHasInts values → RowHasInts ((serial_row program c instr).row values)
 serial_ints program c instr values k h v =
     let a : Act = act program (slots_in program c) instr c.frame.operands in

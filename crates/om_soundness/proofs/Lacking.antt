@@ -6,6 +6,11 @@ use Rattle.om_foot.specs.declared.object.Obj.TheVariants as obj
 use Rattle.om_code.specs.declared.frame.Operand.TheVariants.{Int, NoValue}
 use Rattle.om_code.specs.declared.instruction.Instr.{Instr}
 use Rattle.om_code.specs.declared.instruction.Instr.TheVariants as i
+use Rattle.om_code.specs.declared.instruction.Function.TheVariants as calls
+use Rattle.om_code.specs.declared.instruction.Team.TheVariants as teams
+use Rattle.om_code.specs.declared.instruction.Sharing.TheVariants as sharings
+use Rattle.om_code.specs.declared.instruction.Region.TheVariants as regionals
+use Rattle.om_code.specs.declared.instruction.Task.TheVariants as taskings
 use Rattle.om_code.specs.declared.raw.Raw.{Raw}
 use Rattle.om_code.specs.Frames.{int_at}
 use Rattle.om_code.specs.Places.{instruction_at}
@@ -27,11 +32,11 @@ use Rattle.om_team_serial.specs.declared.row.Row.{Row}
 use Rattle.om_team_serial.specs.declared.row.Row.TheVariants as row
 use Rattle.om_team_serial.specs.Objects.{innermost}
 use Rattle.om_team_worksharing.specs.Rows.{share_in}
-use Rattle.om_team.specs.Rows.{value_of}
+use Rattle.om_team_serial.specs.Ends.{value_of}
 use Rattle.om_task.specs.Tasks.{innermost_group}
 use Rattle.om_task.specs.Rules.{rules_of, choice_row, leaving, admits_all, further_in, row_in, outcome_after}
-use Rattle.om_team.specs.Sites.{site}
-use Rattle.om_team.specs.Sites.{Site, context, operands, next, slots, line, launch, body_of, lock_of, targets_of}
+use Rattle.om_team_serial.specs.Sites.{site}
+use Rattle.om_team_serial.specs.Sites.{Site, context, operands, next, slots, line, launch, body_of, lock_of, targets_of}
 use Rattle.om_task.specs.Table.{row_of}
 use Rattle.om_soundness.specs.Reasons.{HasNoValue, MayLack}
 use Rattle.om_soundness.proofs.Operands.{no_int, no_ints, no_ints_below}
@@ -47,8 +52,8 @@ no_operand None e = refl
 no_operand (Some v) e = cc
 
 forked : (s : Site) (body count : ℕ) (sized : Bool) (values : List Val)
-    → pops (i.Fork body sized count) ≤ length (operands s)
-    → Only (MayLack s.program s.stack (i.Fork body sized count)) ((row_of s (i.Fork body sized count)).row values)
+    → pops (i.Team (teams.Fork body sized count)) ≤ length (operands s)
+    → Only (MayLack s.program s.stack (i.Team (teams.Fork body sized count))) ((row_of s (i.Team (teams.Fork body sized count))).row values)
 forked s body count true values le =
     fork_only (HasNoValue (count + 1) (operands s)) s.worker s.workers (launch s (count + 1) body)
     (body_of s.program body) (context s) true (int_at count (operands s)) (ints_on count (operands s)) values
@@ -58,105 +63,86 @@ forked s body count false values le =
     (context s) false (int_at count (operands s)) (ints_on count (operands s)) values
     (no_ints count (operands s) le) (λ e n. cc)
 
-finished : (s : Site) (has_value : Bool) (values : List Val) → pops (i.Finish has_value) ≤ length (operands s)
-    → Only (MayLack s.program s.stack (i.Finish has_value)) ((row_of s (i.Finish has_value)).row values)
+finished : (s : Site) (has_value : Bool) (values : List Val) → pops (i.Function (calls.Finish has_value)) ≤ length (operands s)
+    → Only (MayLack s.program s.stack (i.Function (calls.Finish has_value))) ((row_of s (i.Function (calls.Finish has_value))).row values)
 finished s true values le =
-    finish_only (MayLack s.program s.stack (i.Finish true)) s.worker (context s) (context s).kind
+    finish_only (MayLack s.program s.stack (i.Function (calls.Finish true))) s.worker (context s) (context s).kind
     (value_of (context s) true) values inl (λ e. inr (no_int (operands s) 0 1 (omega arith) le e))
 finished s false values le =
-    finish_only (MayLack s.program s.stack (i.Finish false)) s.worker (context s) (context s).kind
+    finish_only (MayLack s.program s.stack (i.Function (calls.Finish false))) s.worker (context s) (context s).kind
     (value_of (context s) false) values inl (λ e. cc)
 
 instruction_only : (s : Site) (instr : Instr) (values : List Val) → pops instr ≤ length s.stack.top.frame.operands
     → Only (MayLack s.program s.stack instr) ((row_of s instr).row values)
-instruction_only s i.ThreadNumber values h = tt
-instruction_only s i.TeamSize values h = tt
-instruction_only s (i.Call body count) values h =
+instruction_only s (i.Team teams.ThreadNumber) values h = tt
+instruction_only s (i.Team teams.TeamSize) values h = tt
+instruction_only s (i.Function (calls.Call body count)) values h =
     call_only (HasNoValue count (operands s)) (launch s count body) (body_of s.program body) (context s)
     (ints_on count (operands s)) values (no_ints count (operands s) h)
-instruction_only s i.Return values h =
-    return_only (MayLack s.program s.stack i.Return) (context s) (slots s) (context s).callers
+instruction_only s (i.Function calls.Return) values h =
+    return_only (MayLack s.program s.stack (i.Function calls.Return)) (context s) (slots s) (context s).callers
     (option_map Int (int_at 0 (operands s))) values
     (λ e. inl (no_int (operands s) 0 1 (omega arith) h (no_operand (int_at 0 (operands s)) e))) inr
-instruction_only s i.ReturnNothing values h =
-    return_only (MayLack s.program s.stack i.ReturnNothing) (context s) (slots s) (context s).callers
+instruction_only s (i.Function calls.ReturnNothing) values h =
+    return_only (MayLack s.program s.stack (i.Function calls.ReturnNothing)) (context s) (slots s) (context s).callers
     (Some NoValue) values (λ e. cc) (λ e. e)
-instruction_only s (i.Reduce reduction copy place) values h =
-    reduce_only (MayLack s.program s.stack (i.Reduce reduction copy place)) (context s) reduction copy place values
-instruction_only s (i.Fork body sized count) values h = forked s body count sized values h
-instruction_only s i.Begin values h = tt
-instruction_only s (i.Arrive barrier) values h =
-    arrive_only (MayLack s.program s.stack (i.Arrive barrier)) s.worker (next s) barrier (context s) values
-instruction_only s (i.Depart barrier) values h =
-    depart_only (MayLack s.program s.stack (i.Depart barrier)) s.worker (next s) barrier (context s) values
-instruction_only s i.Leave values h =
-    leave_only (MayLack s.program s.stack i.Leave) s.worker (context s) s.stack.below (slots s) (context s).kind
+instruction_only s (i.Sharing (sharings.Reduce reduction copy place)) values h =
+    reduce_only (MayLack s.program s.stack (i.Sharing (sharings.Reduce reduction copy place))) (context s) reduction copy place values
+instruction_only s (i.Team (teams.Fork body sized count)) values h = forked s body count sized values h
+instruction_only s (i.Team teams.Begin) values h = tt
+instruction_only s (i.Team (teams.Arrive barrier)) values h =
+    arrive_only (MayLack s.program s.stack (i.Team (teams.Arrive barrier))) s.worker (next s) barrier (context s) values
+instruction_only s (i.Team (teams.Depart barrier)) values h =
+    depart_only (MayLack s.program s.stack (i.Team (teams.Depart barrier))) s.worker (next s) barrier (context s) values
+instruction_only s (i.Team teams.Leave) values h =
+    leave_only (MayLack s.program s.stack (i.Team teams.Leave)) s.worker (context s) s.stack.below (slots s) (context s).kind
     (context s).team.number values inl inr
-instruction_only s (i.Loop form) values h =
-    loop_only (MayLack s.program s.stack (i.Loop form)) s.worker (next s) (context s) form (int_at 1 (operands s))
+instruction_only s (i.Sharing (sharings.Loop form)) values h =
+    loop_only (MayLack s.program s.stack (i.Sharing (sharings.Loop form))) s.worker (next s) (context s) form (int_at 1 (operands s))
     (int_at 0 (operands s)) values (λ e. inl (no_int (operands s) 1 2 (omega arith) h e))
     (λ e. inl (no_int (operands s) 0 2 (omega arith) h e)) inr
-instruction_only s (i.Sections count) values h =
-    sections_only (MayLack s.program s.stack (i.Sections count)) s.worker (next s) (context s) count values
-instruction_only s (i.Grab otherwise) values h =
-    grab_only (MayLack s.program s.stack (i.Grab otherwise)) (next s) otherwise (context s)
+instruction_only s (i.Sharing (sharings.Sections count)) values h =
+    sections_only (MayLack s.program s.stack (i.Sharing (sharings.Sections count))) s.worker (next s) (context s) count values
+instruction_only s (i.Sharing (sharings.Grab otherwise)) values h =
+    grab_only (MayLack s.program s.stack (i.Sharing (sharings.Grab otherwise))) (next s) otherwise (context s)
     (share_in (context s)) values (λ e. e)
-instruction_only s (i.Iterate slot otherwise) values h =
+instruction_only s (i.Sharing (sharings.Iterate slot otherwise)) values h =
     iterate_only (next s) otherwise (context s) slot (share_in (context s)) values
-instruction_only s (i.Pick list) values h = pick_only (targets_of s.program list) (share_in (context s)) values
-instruction_only s (i.Single otherwise) values h =
-    single_only (MayLack s.program s.stack (i.Single otherwise)) s.worker (next s) otherwise (context s) values
-instruction_only s i.EndWorksharing values h =
+instruction_only s (i.Sharing (sharings.Pick list)) values h = pick_only (targets_of s.program list) (share_in (context s)) values
+instruction_only s (i.Sharing (sharings.Single otherwise)) values h =
+    single_only (MayLack s.program s.stack (i.Sharing (sharings.Single otherwise))) s.worker (next s) otherwise (context s) values
+instruction_only s (i.Sharing sharings.EndWorksharing) values h =
     end_worksharing_only s.worker (next s) (context s) (innermost (context s).constructs) values
-instruction_only s (i.Masked otherwise) values h =
-    masked_only (MayLack s.program s.stack (i.Masked otherwise)) s.worker (next s) otherwise (context s)
+instruction_only s (i.Region (regionals.Masked otherwise)) values h =
+    masked_only (MayLack s.program s.stack (i.Region (regionals.Masked otherwise))) s.worker (next s) otherwise (context s)
     (int_at 0 (operands s)) values (no_int (operands s) 0 1 (omega arith) h)
-instruction_only s i.EndMasked values h =
-    end_masked_only (MayLack s.program s.stack i.EndMasked) s.worker (next s) (context s)
+instruction_only s (i.Region regionals.EndMasked) values h =
+    end_masked_only (MayLack s.program s.stack (i.Region regionals.EndMasked)) s.worker (next s) (context s)
     (innermost (context s).constructs) values (λ e. e)
-instruction_only s (i.AskCritical lock) values h = tt
-instruction_only s (i.EnterCritical lock) values h =
-    enter_critical_only (MayLack s.program s.stack (i.EnterCritical lock)) s.worker (next s) lock
+instruction_only s (i.Region (regionals.AskCritical lock)) values h = tt
+instruction_only s (i.Region (regionals.EnterCritical lock)) values h =
+    enter_critical_only (MayLack s.program s.stack (i.Region (regionals.EnterCritical lock))) s.worker (next s) lock
     (lock_of s.program lock) values
-instruction_only s (i.LeaveCritical lock) values h =
-    leave_critical_only (MayLack s.program s.stack (i.LeaveCritical lock)) s.worker (next s) lock
+instruction_only s (i.Region (regionals.LeaveCritical lock)) values h =
+    leave_critical_only (MayLack s.program s.stack (i.Region (regionals.LeaveCritical lock))) s.worker (next s) lock
     (lock_of s.program lock) (innermost (context s).constructs) values (λ e. e)
-instruction_only s (i.Spawn body count) values h =
+instruction_only s (i.Task (taskings.Spawn body count)) values h =
     spawn_only (HasNoValue count (operands s))
     (record { worker = s.worker; line = line s; launch = launch s count body }) (body_of s.program body)
     (context s) values (no_ints count (operands s) h)
-instruction_only s i.TaskEnd values h =
-    task_end_only (MayLack s.program s.stack i.TaskEnd) s.worker s.stack (slots s) values inl inr
-instruction_only s i.WaitBegin values h = tt
-instruction_only s i.WaitEnd values h =
-    wait_end_only (MayLack s.program s.stack i.WaitEnd) s.worker (next s) (context s) values
-instruction_only s i.Yield values h = tt
-instruction_only s i.GroupBegin values h =
-    group_begin_only (MayLack s.program s.stack i.GroupBegin) s.worker (next s) (context s) values
-instruction_only s i.GroupEnd values h =
-    group_end_only (MayLack s.program s.stack i.GroupEnd) s.worker (next s) (context s)
+instruction_only s (i.Task taskings.TaskEnd) values h =
+    task_end_only (MayLack s.program s.stack (i.Task taskings.TaskEnd)) s.worker s.stack (slots s) values inl inr
+instruction_only s (i.Task taskings.WaitBegin) values h = tt
+instruction_only s (i.Task taskings.WaitEnd) values h =
+    wait_end_only (MayLack s.program s.stack (i.Task taskings.WaitEnd)) s.worker (next s) (context s) values
+instruction_only s (i.Task taskings.Yield) values h = tt
+instruction_only s (i.Task taskings.GroupBegin) values h =
+    group_begin_only (MayLack s.program s.stack (i.Task taskings.GroupBegin)) s.worker (next s) (context s) values
+instruction_only s (i.Task taskings.GroupEnd) values h =
+    group_end_only (MayLack s.program s.stack (i.Task taskings.GroupEnd)) s.worker (next s) (context s)
     (innermost_group (innermost (context s).constructs)) values (λ e. e)
-instruction_only s (i.Finish has_value) values h = finished s has_value values h
-instruction_only s (i.Constant k) values h = serial_only s.program s.stack (i.Constant k) values tt h
-instruction_only s i.Duplicate values h = serial_only s.program s.stack i.Duplicate values tt h
-instruction_only s i.Pop values h = serial_only s.program s.stack i.Pop values tt h
-instruction_only s i.Nop values h = serial_only s.program s.stack i.Nop values tt h
-instruction_only s i.Use values h = serial_only s.program s.stack i.Use values tt h
-instruction_only s (i.Unary operator) values h = serial_only s.program s.stack (i.Unary operator) values tt h
-instruction_only s (i.Binary operator) values h = serial_only s.program s.stack (i.Binary operator) values tt h
-instruction_only s (i.Jump target) values h = serial_only s.program s.stack (i.Jump target) values tt h
-instruction_only s (i.JumpIfZero target) values h = serial_only s.program s.stack (i.JumpIfZero target) values tt h
-instruction_only s (i.Load place) values h = serial_only s.program s.stack (i.Load place) values tt h
-instruction_only s (i.Store place keeps) values h = serial_only s.program s.stack (i.Store place keeps) values tt h
-instruction_only s (i.LoadElement place) values h = serial_only s.program s.stack (i.LoadElement place) values tt h
-instruction_only s (i.StoreElement place keeps) values h =
-    serial_only s.program s.stack (i.StoreElement place keeps) values tt h
-instruction_only s (i.Clear slot) values h = serial_only s.program s.stack (i.Clear slot) values tt h
-instruction_only s (i.Print text count) values h = serial_only s.program s.stack (i.Print text count) values tt h
-instruction_only s (i.Atomic operator side place) values h =
-    serial_only s.program s.stack (i.Atomic operator side place) values tt h
-instruction_only s (i.AtomicElement operator side place) values h =
-    serial_only s.program s.stack (i.AtomicElement operator side place) values tt h
+instruction_only s (i.Function (calls.Finish has_value)) values h = finished s has_value values h
+instruction_only s (i.Serial x) values h = serial_only s.program s.stack x values h
 
 choice_only : (s : Site) (instr : Instr) (choice : Choice) (values : List Val)
     → pops instr ≤ length s.stack.top.frame.operands

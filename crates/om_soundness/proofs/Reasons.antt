@@ -9,15 +9,16 @@ use Rattle.om_code.specs.declared.frame.Fault.{Fault}
 use Rattle.om_code.specs.declared.frame.Operand.{Operand}
 use Rattle.om_code.specs.declared.frame.Operand.TheVariants as operand
 use Rattle.om_code.specs.declared.instruction.AtomicOperator.{AtomicOperator}
-use Rattle.om_code.specs.declared.instruction.Instr.{Instr}
 use Rattle.om_code.specs.declared.instruction.Instr.TheVariants as i
+use Rattle.om_code.specs.declared.instruction.Serial.{Serial}
+use Rattle.om_code.specs.declared.instruction.Serial.TheVariants as serials
 use Rattle.om_code.specs.declared.instruction.Side.{Side}
 use Rattle.om_code.specs.declared.raw.Raw.{Raw}
 use Rattle.om_code.specs.declared.raw.Slot.{Slot}
-use Rattle.om_code.specs.declared.serial.Touch.{Touch}
-use Rattle.om_code.specs.declared.serial.Touch.TheVariants as touch
-use Rattle.om_code.specs.declared.serial.Turn.{Turn}
-use Rattle.om_code.specs.declared.serial.Turn.TheVariants as turn
+use Rattle.om_code.specs.Frames.{Touch}
+use Rattle.om_code.specs.Frames as touch
+use Rattle.om_code.specs.declared.act.Turn.{Turn}
+use Rattle.om_code.specs.declared.act.Turn.TheVariants as turn
 use Rattle.om_code.specs.Arithmetic.{operate, operate_on_one, update}
 use Rattle.om_code.specs.Frames.{Act, act, on_operand, on_int, on_ints, at_index, int_at, gives, put, loaded, stored}
 use Rattle.om_code.specs.Frames.{updated, cells_in, index_in, used, jump_if, left_by, kept, print}
@@ -131,95 +132,73 @@ module _ (reason : Type 0) where
   touch_only program c t (touch.Prints text count) values h =
       turn_only (c.frame.next + 1) _ (t cell.Unset) (h cell.Unset)
 
--- the instructions of the frame machine that go on in their frame
-abbrev pub IsSerial : Instr → Type 0
-IsSerial (i.Constant value) = Unit {0}
-IsSerial i.Duplicate = Unit {0}
-IsSerial i.Pop = Unit {0}
-IsSerial i.Use = Unit {0}
-IsSerial i.Nop = Unit {0}
-IsSerial (i.Unary operator) = Unit {0}
-IsSerial (i.Binary operator) = Unit {0}
-IsSerial (i.Jump target) = Unit {0}
-IsSerial (i.JumpIfZero target) = Unit {0}
-IsSerial (i.Load place) = Unit {0}
-IsSerial (i.Store place keeps) = Unit {0}
-IsSerial (i.LoadElement place) = Unit {0}
-IsSerial (i.StoreElement place keeps) = Unit {0}
-IsSerial (i.Clear slot) = Unit {0}
-IsSerial (i.Print text values) = Unit {0}
-IsSerial (i.Atomic operator side place) = Unit {0}
-IsSerial (i.AtomicElement operator side place) = Unit {0}
-IsSerial _ = ⊥
-
 first_there : (s : List Operand) → 1 ≤ length s → slice_get s 0 ≡ None → ⊥
 first_there [] le e = omega (arith, le)
 first_there (x ∷ s) le e = cc
 
-act_only : (program : Raw) (slots : List Slot) (stack : Stack) (instr : Instr) → IsSerial instr
-    → pops instr ≤ length stack.top.frame.operands
-    → OnlyAct (MayLack program stack instr) (act program slots instr stack.top.frame.operands)
-act_only program slots stack (i.Constant value) k le = record { only = λ c. tt }
-act_only program slots stack i.Duplicate k le =
+act_only : (program : Raw) (slots : List Slot) (stack : Stack) (instr : Serial)
+    → pops (i.Serial instr) ≤ length stack.top.frame.operands
+    → OnlyAct (MayLack program stack (i.Serial instr)) (act program slots instr stack.top.frame.operands)
+act_only program slots stack (serials.Constant value) le = record { only = λ c. tt }
+act_only program slots stack serials.Duplicate le =
     on_operand_only ⊥ (slice_get stack.top.frame.operands 0) _ (first_there stack.top.frame.operands le)
     (λ a. record { only = λ c. tt })
-act_only program slots stack i.Pop k le =
+act_only program slots stack serials.Pop le =
     on_operand_only ⊥ (slice_get stack.top.frame.operands 0) _ (first_there stack.top.frame.operands le)
     (λ a. record { only = λ c. tt })
-act_only program slots stack i.Use k le =
+act_only program slots stack serials.Use le =
     on_operand_only ⊥ (slice_get stack.top.frame.operands 0) _ (first_there stack.top.frame.operands le)
     (λ a. record { only = λ c. used_only ⊥ a })
-act_only program slots stack i.Nop k le = record { only = λ c. tt }
-act_only program slots stack (i.Unary o) k le =
+act_only program slots stack serials.Nop le = record { only = λ c. tt }
+act_only program slots stack (serials.Unary o) le =
     let s = stack.top.frame.operands in
     on_int_only (HasNoValue 1 s) (int_at 0 s) _ (no_int s 0 1 (omega arith) le)
     (λ a. record { only = λ c. gives_only (HasNoValue 1 s) 1 (operate_on_one o a) })
-act_only program slots stack (i.Binary o) k le =
+act_only program slots stack (serials.Binary o) le =
     let s = stack.top.frame.operands in
     on_ints_only (HasNoValue 2 s) (int_at 1 s) (int_at 0 s) _ (no_int s 1 2 (omega arith) le)
     (no_int s 0 2 (omega arith) le) (λ a b. record { only = λ c. gives_only (HasNoValue 2 s) 2 (operate o a b) })
-act_only program slots stack (i.Jump target) k le = record { only = λ c. tt }
-act_only program slots stack (i.JumpIfZero target) k le =
+act_only program slots stack (serials.Jump target) le = record { only = λ c. tt }
+act_only program slots stack (serials.JumpIfZero target) le =
     let s = stack.top.frame.operands in
     on_int_only (HasNoValue 1 s) (int_at 0 s) _ (no_int s 0 1 (omega arith) le)
     (λ a. record { only = λ c. jump_only (HasNoValue 1 s) (int_eq a (pos 0)) target })
-act_only program slots stack (i.Load place) k le =
+act_only program slots stack (serials.Load place) le =
     record { only = λ c. loaded_only (HasNoValue 0 stack.top.frame.operands) 0 c }
-act_only program slots stack (i.Store place keeps) k le =
+act_only program slots stack (serials.Store place keeps) le =
     let s = stack.top.frame.operands in
     on_int_only (HasNoValue 1 s) (int_at 0 s) _ (no_int s 0 1 (omega arith) le)
     (λ a. record { only = λ c. stored_only (HasNoValue 1 s) (left_by keeps) None a c })
-act_only program slots stack (i.LoadElement place) k le =
+act_only program slots stack (serials.LoadElement place) le =
     let s = stack.top.frame.operands in
     on_int_only (HasNoValue 1 s) (int_at 0 s) _ (no_int s 0 1 (omega arith) le)
     (λ a. at_index_only (HasNoValue 1 s) (index_in (cells_in program slots place) a) _
     (λ n. record { only = λ c. loaded_only (HasNoValue 1 s) 1 c }))
-act_only program slots stack (i.StoreElement place keeps) k le =
+act_only program slots stack (serials.StoreElement place keeps) le =
     let s = stack.top.frame.operands in
     on_ints_only (HasNoValue 2 s) (int_at 1 s) (int_at 0 s) _ (no_int s 1 2 (omega arith) le)
     (no_int s 0 2 (omega arith) le)
     (λ a b. at_index_only (HasNoValue 2 s) (index_in (cells_in program slots place) a) _
     (λ n. record { only = λ c. stored_only (HasNoValue 2 s) 2 (kept keeps b) b c }))
-act_only program slots stack (i.Clear slot) k le = record { only = λ c. tt }
-act_only program slots stack (i.Print text values) k le =
+act_only program slots stack (serials.Clear slot) le = record { only = λ c. tt }
+act_only program slots stack (serials.Print text values) le =
     let s = stack.top.frame.operands in
     print_only (HasNoValue values s) text values (ints_on values s) (no_ints values s le)
-act_only program slots stack (i.Atomic o side place) k le =
+act_only program slots stack (serials.Atomic o side place) le =
     let s = stack.top.frame.operands in
     on_int_only (HasNoValue 1 s) (int_at 0 s) _ (no_int s 0 1 (omega arith) le)
     (λ a. record { only = λ c. updated_only (HasNoValue 1 s) 1 o side a c })
-act_only program slots stack (i.AtomicElement o side place) k le =
+act_only program slots stack (serials.AtomicElement o side place) le =
     let s = stack.top.frame.operands in
     on_ints_only (HasNoValue 2 s) (int_at 1 s) (int_at 0 s) _ (no_int s 1 2 (omega arith) le)
     (no_int s 0 2 (omega arith) le)
     (λ a b. at_index_only (HasNoValue 2 s) (index_in (cells_in program slots place) a) _
     (λ n. record { only = λ c. updated_only (HasNoValue 2 s) 2 o side b c }))
-act_only program slots stack _ k le = absurd k
 
-pub serial_only : (program : Raw) (stack : Stack) (instr : Instr) (values : List Val) → IsSerial instr
-    → pops instr ≤ length stack.top.frame.operands
-    → Only (MayLack program stack instr) ((serial_row program stack.top instr).row values)
-serial_only program stack instr values k le =
+pub serial_only : (program : Raw) (stack : Stack) (instr : Serial) (values : List Val)
+    → pops (i.Serial instr) ≤ length stack.top.frame.operands
+    → Only (MayLack program stack (i.Serial instr)) ((serial_row program stack.top instr).row values)
+serial_only program stack instr values le =
     let a = act program (slots_in program stack.top) instr stack.top.frame.operands in
-    touch_only (MayLack program stack instr) program stack.top a.turn a.touch values
-    (act_only program (slots_in program stack.top) stack instr k le).only
+    touch_only (MayLack program stack (i.Serial instr)) program stack.top a.turn a.touch values
+    (act_only program (slots_in program stack.top) stack instr le).only

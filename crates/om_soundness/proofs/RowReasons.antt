@@ -54,7 +54,7 @@ use Rattle.om_team_serial.specs.Rows.{is_zero}
 use Rattle.om_task.specs.Tasks.{born}
 use Rattle.om_task.specs.Rows.{made_row, given_row, spawn_row, ended_row, end_row_of, task_end_row, waited}
 use Rattle.om_task.specs.Rows.{wait_end_row, opened_row, group_begin_row, closed, closed_row}
-use Rattle.om_team.specs.Rows.{finished, finished_row}
+use Rattle.om_team_serial.specs.Ends.{finished, finished_row}
 use Rattle.om_task.specs.Rows.{ready_for, started, started_row, start_row}
 use Rattle.om_soundness.specs.Reasons.{is_in_loop, HasNoSection, is_worksharing}
 use Rattle.om_soundness.proofs.Reasons.{Only}

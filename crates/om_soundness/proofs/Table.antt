@@ -4,16 +4,18 @@ use Rattle.std.specs.Prelude.{All}
 use Rattle.om_code.specs.declared.frame.Operand.TheVariants as operand
 use Rattle.om_code.specs.declared.instruction.Instr.{Instr}
 use Rattle.om_code.specs.declared.instruction.Instr.TheVariants as i
+use Rattle.om_code.specs.declared.instruction.Serial.TheVariants as serials
+use Rattle.om_code.specs.declared.instruction.Function.TheVariants as calls
 use Rattle.om_code.specs.declared.raw.Raw.{Raw}
 use Rattle.om_code.specs.declared.raw.Slot.{Slot}
-use Rattle.om_code.specs.Frames.{Frame, Act, act, acted, int_at, print}
+use Rattle.om_code.specs.Frames.{Frame, Act, act, act_at, acted, int_at, print}
 use Rattle.om_code.specs.Places.{slots_of}
 use Rattle.om_code.specs.Printing.{ints_on}
 use Rattle.om_code.specs.Validity.{NamesKnown}
 use Rattle.om_state.specs.declared.control.Control.TheVariants.{Running}
 use Rattle.om_state.specs.declared.control.Stack.{Stack}
 use Rattle.om_state.specs.State.{State}
-use Rattle.om_team.specs.Sites.{site}
+use Rattle.om_team_serial.specs.Sites.{site}
 use Rattle.om_task.specs.Table.{row_of}
 use Rattle.om_team_serial.specs.SerialRows.{act_row}
 use Rattle.om_lower_rules.specs.Running.{world_of}
@@ -48,47 +50,47 @@ module _ (program : Raw) (workers worker : ℕ) (stack : Stack) (before s : Stat
   pub instruction_leaves : (instr : Instr) → NamesKnown program slots instr
       → Leaves program worker stack before s
       (behind_asked program worker stack before s f (row_of (site program workers worker at) instr))
-      (acted program f (act program slots instr f.operands))
-  instruction_leaves (i.Constant v) known = by_act (act program slots (i.Constant v) f.operands) ((λ c. tt), tt)
-  instruction_leaves i.Duplicate known =
-      by_act (act program slots i.Duplicate f.operands) (fits.duplicate_fits program slots cells f.operands)
-  instruction_leaves i.Pop known =
-      by_act (act program slots i.Pop f.operands) (fits.pop_fits program slots cells f.operands)
-  instruction_leaves i.Nop known = by_act (act program slots i.Nop f.operands) ((λ c. tt), tt)
-  instruction_leaves (i.Unary o) known =
-      by_act (act program slots (i.Unary o) f.operands) (fits.unary_fits program slots cells f.operands o)
-  instruction_leaves (i.Binary o) known =
-      by_act (act program slots (i.Binary o) f.operands) (fits.binary_fits program slots cells f.operands o)
-  instruction_leaves (i.Jump target) known = by_act (act program slots (i.Jump target) f.operands) ((λ c. tt), tt)
-  instruction_leaves (i.JumpIfZero target) known =
-      by_act (act program slots (i.JumpIfZero target) f.operands)
+      (acted program f (act_at program slots instr f.operands))
+  instruction_leaves (i.Serial (serials.Constant v)) known = by_act (act program slots (serials.Constant v) f.operands) ((λ c. tt), tt)
+  instruction_leaves (i.Serial serials.Duplicate) known =
+      by_act (act program slots serials.Duplicate f.operands) (fits.duplicate_fits program slots cells f.operands)
+  instruction_leaves (i.Serial serials.Pop) known =
+      by_act (act program slots serials.Pop f.operands) (fits.pop_fits program slots cells f.operands)
+  instruction_leaves (i.Serial serials.Nop) known = by_act (act program slots serials.Nop f.operands) ((λ c. tt), tt)
+  instruction_leaves (i.Serial (serials.Unary o)) known =
+      by_act (act program slots (serials.Unary o) f.operands) (fits.unary_fits program slots cells f.operands o)
+  instruction_leaves (i.Serial (serials.Binary o)) known =
+      by_act (act program slots (serials.Binary o) f.operands) (fits.binary_fits program slots cells f.operands o)
+  instruction_leaves (i.Serial (serials.Jump target)) known = by_act (act program slots (serials.Jump target) f.operands) ((λ c. tt), tt)
+  instruction_leaves (i.Serial (serials.JumpIfZero target)) known =
+      by_act (act program slots (serials.JumpIfZero target) f.operands)
       (fits.jump_fits program slots cells f.operands target)
-  instruction_leaves i.Use known =
-      by_act (act program slots i.Use f.operands) (fits.use_fits program slots cells f.operands)
-  instruction_leaves (i.Load p) known =
-      by_act (act program slots (i.Load p) f.operands) (fits.load_fits program slots cells f.operands p known)
-  instruction_leaves (i.Store p kept) known =
-      by_act (act program slots (i.Store p kept) f.operands)
+  instruction_leaves (i.Serial serials.Use) known =
+      by_act (act program slots serials.Use f.operands) (fits.use_fits program slots cells f.operands)
+  instruction_leaves (i.Serial (serials.Load p)) known =
+      by_act (act program slots (serials.Load p) f.operands) (fits.load_fits program slots cells f.operands p known)
+  instruction_leaves (i.Serial (serials.Store p kept)) known =
+      by_act (act program slots (serials.Store p kept) f.operands)
       (fits.store_fits program slots cells f.operands p kept known)
-  instruction_leaves (i.LoadElement p) known =
-      by_act (act program slots (i.LoadElement p) f.operands)
+  instruction_leaves (i.Serial (serials.LoadElement p)) known =
+      by_act (act program slots (serials.LoadElement p) f.operands)
       (fits.load_element_fits program slots cells f.operands p)
-  instruction_leaves (i.StoreElement p kept) known =
-      by_act (act program slots (i.StoreElement p kept) f.operands)
+  instruction_leaves (i.Serial (serials.StoreElement p kept)) known =
+      by_act (act program slots (serials.StoreElement p kept) f.operands)
       (fits.store_element_fits program slots cells f.operands p kept)
-  instruction_leaves (i.Clear slot) known = clear_leaves program worker stack before s f shows keeps owns slot
-  instruction_leaves (i.Print text values) known = by_print text values (ints_on values f.operands)
-  instruction_leaves (i.Atomic o side p) known =
-      by_act (act program slots (i.Atomic o side p) f.operands)
+  instruction_leaves (i.Serial (serials.Clear slot)) known = clear_leaves program worker stack before s f shows keeps owns slot
+  instruction_leaves (i.Serial (serials.Print text values)) known = by_print text values (ints_on values f.operands)
+  instruction_leaves (i.Serial (serials.Atomic o side p)) known =
+      by_act (act program slots (serials.Atomic o side p) f.operands)
       (fits.atomic_fits program slots cells f.operands o side p known)
-  instruction_leaves (i.AtomicElement o side p) known =
-      by_act (act program slots (i.AtomicElement o side p) f.operands)
+  instruction_leaves (i.Serial (serials.AtomicElement o side p)) known =
+      by_act (act program slots (serials.AtomicElement o side p) f.operands)
       (fits.atomic_element_fits program slots cells f.operands o side p)
-  instruction_leaves i.Return known =
+  instruction_leaves (i.Function calls.Return) known =
       ends.return_leaves program worker stack before s f shows keeps owns (int_at 0 f.operands)
-  instruction_leaves i.ReturnNothing known =
+  instruction_leaves (i.Function calls.ReturnNothing) known =
       ends.value_returns program worker stack before s f shows keeps owns operand.NoValue
-  instruction_leaves (i.Finish true) known =
+  instruction_leaves (i.Function (calls.Finish true)) known =
       ends.finish_leaves program worker stack before s f shows keeps (int_at 0 f.operands)
-  instruction_leaves (i.Finish false) known = ends.value_finishes program worker stack before s f shows keeps (pos 0)
+  instruction_leaves (i.Function (calls.Finish false)) known = ends.value_finishes program worker stack before s f shows keeps (pos 0)
   instruction_leaves _ known = tt

@@ -10,16 +10,16 @@ use Rattle.om_code.specs.declared.frame.Cell.TheVariants as cell
 use Rattle.om_code.specs.declared.frame.Fault.{Fault}
 use Rattle.om_code.specs.declared.frame.Operand.{Operand}
 use Rattle.om_code.specs.declared.instruction.Barrier.{Barrier}
-use Rattle.om_code.specs.declared.instruction.Instr.{Instr}
+use Rattle.om_code.specs.declared.instruction.Serial.{Serial}
 use Rattle.om_code.specs.declared.instruction.Place.{Place}
 use Rattle.om_code.specs.declared.instruction.Reduction.{Reduction}
 use Rattle.om_code.specs.declared.raw.Body.{Body}
 use Rattle.om_code.specs.declared.raw.Raw.{Raw}
 use Rattle.om_code.specs.declared.raw.Slot.{Slot}
-use Rattle.om_code.specs.declared.serial.Touch.{Touch}
-use Rattle.om_code.specs.declared.serial.Touch.TheVariants as touch
-use Rattle.om_code.specs.declared.serial.Turn.{Turn}
-use Rattle.om_code.specs.declared.serial.Turn.TheVariants as turn
+use Rattle.om_code.specs.Frames.{Touch}
+use Rattle.om_code.specs.Frames as touch
+use Rattle.om_code.specs.declared.act.Turn.{Turn}
+use Rattle.om_code.specs.declared.act.Turn.TheVariants as turn
 use Rattle.om_code.specs.Arithmetic.{combine}
 use Rattle.om_code.specs.Frames.{act}
 use Rattle.om_code.specs.Printing.{ints_on}
@@ -58,7 +58,7 @@ use Rattle.om_team_serial.specs.Rows.{is_zero}
 use Rattle.om_task.specs.Tasks.{born, group_of, innermost_group, ready_of}
 use Rattle.om_task.specs.Rows.{made_row, given_row, spawn_row, ended_row, end_row_of, task_end_row, wait_begin_row}
 use Rattle.om_task.specs.Rows.{waited, wait_end_row, opened_row, group_begin_row, closed, closed_row, group_end_row}
-use Rattle.om_team.specs.Rows.{value_of, finished, finished_row, finish_row}
+use Rattle.om_team_serial.specs.Ends.{value_of, finished, finished_row, finish_row}
 use Rattle.om_task.specs.Rows.{ready_for, started, started_row}
 use Rattle.om_task.specs.Rows.{start_row}
 use Rattle.om_soundness.specs.Standing.{Owned, IsStandingFrame, IsStandingContext, IsStandingControl, IsStandingTask}
@@ -154,7 +154,7 @@ module _ (program : Raw) (owned : Owned) (stack : Stack) where
   touch_stands c t (touch.Prints text count) values h =
       turn_stands (c.frame.next + 1) _ (t cell.Unset) (h cell.Unset) (tt, tt)
 
-  pub serial_stands : (c : Context) (instr : Instr) (values : List Val)
+  pub serial_stands : (c : Context) (instr : Serial) (values : List Val)
       → ((y : cells.Cell) → TurnLeads (c.frame.next + 1)
       ((act program (slots_in program c) instr c.frame.operands).turn y))
       → AskedStands program owned stack (serial_row program c instr) values

@@ -11,10 +11,10 @@ use Rattle.om_code.specs.declared.instruction.Place.{Place}
 use Rattle.om_code.specs.declared.instruction.Place.TheVariants as place
 use Rattle.om_code.specs.declared.raw.Raw.{Raw}
 use Rattle.om_code.specs.declared.raw.Slot.{Slot}
-use Rattle.om_code.specs.declared.serial.Touch.{Touch}
-use Rattle.om_code.specs.declared.serial.Touch.TheVariants.{Nothing, Reads, Writes, Clears, Prints}
-use Rattle.om_code.specs.declared.serial.Turn.{Turn}
-use Rattle.om_code.specs.declared.serial.Turn.TheVariants.{Goes, Returns, Finishes, Faults, Lacks}
+use Rattle.om_code.specs.Frames.{Touch}
+use Rattle.om_code.specs.Frames.{Nothing, Reads, Writes, Clears, Prints}
+use Rattle.om_code.specs.declared.act.Turn.{Turn}
+use Rattle.om_code.specs.declared.act.Turn.TheVariants.{Goes, Returns, Finishes, Faults, Lacks}
 use Rattle.om_code.specs.Frames as frames
 use Rattle.om_code.specs.Frames.{Frame, FrameTurn, Act, acted, turned, cells_in, cell_at, content, print_bytes}
 use Rattle.om_code.specs.Places.{slots_of}

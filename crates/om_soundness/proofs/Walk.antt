@@ -7,9 +7,15 @@ use Rattle.om_code.specs.declared.frame.Operand.{Operand}
 use Rattle.om_code.specs.declared.frame.Operand.TheVariants.{Int, NoValue}
 use Rattle.om_code.specs.declared.instruction.Instr.{Instr}
 use Rattle.om_code.specs.declared.instruction.Instr.TheVariants as i
+use Rattle.om_code.specs.declared.instruction.Serial.{Serial}
+use Rattle.om_code.specs.declared.instruction.Function.TheVariants as calls
+use Rattle.om_code.specs.declared.instruction.Team.TheVariants as teams
+use Rattle.om_code.specs.declared.instruction.Sharing.TheVariants as sharings
+use Rattle.om_code.specs.declared.instruction.Region.TheVariants as regionals
+use Rattle.om_code.specs.declared.instruction.Task.TheVariants as taskings
 use Rattle.om_code.specs.declared.raw.Raw.{Raw}
-use Rattle.om_code.specs.declared.serial.Turn.{Turn}
-use Rattle.om_code.specs.declared.serial.Turn.TheVariants as turn
+use Rattle.om_code.specs.declared.act.Turn.{Turn}
+use Rattle.om_code.specs.declared.act.Turn.TheVariants as turn
 use Rattle.om_code.specs.Frames.{IsRight, act, int_at}
 use Rattle.om_code.specs.Printing.{ints_on}
 use Rattle.om_code.specs.Validity.{IsValid, IsKnownBody}
@@ -27,9 +33,9 @@ use Rattle.om_state.specs.State.{State, values_read}
 use Rattle.om_team_serial.specs.Objects.{innermost}
 use Rattle.om_team_serial.specs.SerialRows.{serial_row, slots_in}
 use Rattle.om_team_worksharing.specs.Rows.{share_in}
-use Rattle.om_team.specs.Sites.{site}
+use Rattle.om_team_serial.specs.Sites.{site}
 use Rattle.om_task.specs.Rules.{choice_row, leaving, admits_all, further_in, row_in}
-use Rattle.om_team.specs.Sites.{Site, context, operands, next, slots, line, launch, body_of, lock_of, targets_of}
+use Rattle.om_team_serial.specs.Sites.{Site, context, operands, next, slots, line, launch, body_of, lock_of, targets_of}
 use Rattle.om_task.specs.Table.{row_of}
 use Rattle.om_soundness.specs.Standing.{Owned, IsStandingFrame, IsStandingControl, IsStanding}
 use Rattle.om_soundness.proofs.Homes.{HasOwn, around, around_none, begins, begun_frame}
@@ -75,10 +81,10 @@ module _ (owned : Owned) where
   turn_leads program stack instr (turn.Returns v) h r = tt
   turn_leads program stack instr (turn.Finishes v) h r = tt
 
-  serial : (program : Raw) (stack : Stack) (instr : Instr) (values : List Val) → IsAt program stack instr
+  serial : (program : Raw) (stack : Stack) (instr : Serial) (values : List Val) → IsAt program stack (i.Serial instr)
       → AskedStands program owned stack (serial_row program stack.top instr) values
   serial program stack instr values h = serial_stands program owned stack stack.top instr values
-      (λ y. turn_leads program stack instr
+      (λ y. turn_leads program stack (i.Serial instr)
       ((act program (slots_in program stack.top) instr stack.top.frame.operands).turn y) h
       (act_right program (slots_in program stack.top) instr stack.top.frame.operands y))
 
@@ -92,8 +98,8 @@ module _ (owned : Owned) where
       begins s.program owned h.at.body.slots top.frame.homes top.task top.frame.ordinal body values 0
       (around owned top.task top.frame.ordinal h.at.body.slots top.frame.homes h.own h.at.homes) known
 
-  called : (s : Site) (body count : ℕ) (values : List Val) → IsAt s.program s.stack (i.Call body count)
-      → AskedStands s.program owned s.stack (row_of s (i.Call body count)) values
+  called : (s : Site) (body count : ℕ) (values : List Val) → IsAt s.program s.stack (i.Function (calls.Call body count))
+      → AskedStands s.program owned s.stack (row_of s (i.Function (calls.Call body count))) values
   called s body count values h =
       let top = s.stack.top in
       call_stands s.program owned s.stack (launch s count body) (body_of s.program body) top
@@ -103,7 +109,7 @@ module _ (owned : Owned) where
               begins s.program owned [] top.frame.homes top.task top.frame.ordinal body count top.frames
               (around_none owned top.task top.frame.ordinal top.frame.homes) h.at.names;
           callers = (
-            goes_on s.program owned top.frame (i.Call body count) 1 (next s) count None h.at (omega arith)
+            goes_on s.program owned top.frame (i.Function (calls.Call body count)) 1 (next s) count None h.at (omega arith)
                 (omega arith) (Contains-here (next s) []),
             h.control.0.callers,
           );
@@ -114,27 +120,27 @@ module _ (owned : Owned) where
       )
 
   forked : (s : Site) (body count : ℕ) (sized : Bool) (values : List Val) → 1 ≤ s.workers
-      → IsAt s.program s.stack (i.Fork body sized count)
-      → AskedStands s.program owned s.stack (row_of s (i.Fork body sized count)) values
+      → IsAt s.program s.stack (i.Team (teams.Fork body sized count))
+      → AskedStands s.program owned s.stack (row_of s (i.Team (teams.Fork body sized count))) values
   forked s body count true values some h =
       fork_stands s.program owned s.stack s.worker s.workers (launch s (count + 1) body) (body_of s.program body)
       (context s) true (int_at count (operands s)) (ints_on count (operands s)) values some
-      (leads s.program s.stack (i.Fork body true count) (next s) (count + 1) None h (omega arith) (omega arith)
-      (Contains-here (next s) [])) (begins_within s (i.Fork body true count) body count h h.at.names)
+      (leads s.program s.stack (i.Team (teams.Fork body true count)) (next s) (count + 1) None h (omega arith) (omega arith)
+      (Contains-here (next s) [])) (begins_within s (i.Team (teams.Fork body true count)) body count h h.at.names)
   forked s body count false values some h =
       fork_stands s.program owned s.stack s.worker s.workers (launch s count body) (body_of s.program body)
       (context s) false (int_at count (operands s)) (ints_on count (operands s)) values some
-      (leads s.program s.stack (i.Fork body false count) (next s) count None h (omega arith) (omega arith)
-      (Contains-here (next s) [])) (begins_within s (i.Fork body false count) body count h h.at.names)
+      (leads s.program s.stack (i.Team (teams.Fork body false count)) (next s) count None h (omega arith) (omega arith)
+      (Contains-here (next s) [])) (begins_within s (i.Team (teams.Fork body false count)) body count h h.at.names)
 
-  spawned : (s : Site) (body count : ℕ) (values : List Val) → IsAt s.program s.stack (i.Spawn body count)
-      → RowMakes s.program owned (Running s.stack) (row_of s (i.Spawn body count)).names
-      ((row_of s (i.Spawn body count)).row values)
+  spawned : (s : Site) (body count : ℕ) (values : List Val) → IsAt s.program s.stack (i.Task (taskings.Spawn body count))
+      → RowMakes s.program owned (Running s.stack) (row_of s (i.Task (taskings.Spawn body count))).names
+      ((row_of s (i.Task (taskings.Spawn body count))).row values)
   spawned s body count values h =
       spawn_stands s.program owned s.stack (record { worker = s.worker; line = line s; launch = launch s count body })
       (body_of s.program body) (context s) values
-      (leads s.program s.stack (i.Spawn body count) (next s) count None h (omega arith) (omega arith)
-      (Contains-here (next s) [])) (begins_within s (i.Spawn body count) body count h h.at.names)
+      (leads s.program s.stack (i.Task (taskings.Spawn body count)) (next s) count None h (omega arith) (omega arith)
+      (Contains-here (next s) [])) (begins_within s (i.Task (taskings.Spawn body count)) body count h h.at.names)
 
   -- a target of a list of PICK
   target : (picks : List (List ℕ)) (list k to : ℕ) → slice_get (unwrap_or (slice_get picks list) []) k ≡ Some to
@@ -143,11 +149,11 @@ module _ (owned : Owned) where
       subst (λ xs. Contains xs to) (unwrap_or-slice_get picks list [])
       (k, slice_get_within _ k to e, get_or_from_slice_get _ k to to e)
 
-  picked : (s : Site) (list : ℕ) (values : List Val) → IsAt s.program s.stack (i.Pick list)
-      → AskedStands s.program owned s.stack (row_of s (i.Pick list)) values
+  picked : (s : Site) (list : ℕ) (values : List Val) → IsAt s.program s.stack (i.Sharing (sharings.Pick list))
+      → AskedStands s.program owned s.stack (row_of s (i.Sharing (sharings.Pick list))) values
   picked s list values h =
       pick_stands s.program owned s.stack (targets_of s.program list) (share_in (context s)) values
-      (λ k to e. leads s.program s.stack (i.Pick list) to 0 None h (omega arith) refl
+      (λ k to e. leads s.program s.stack (i.Sharing (sharings.Pick list)) to 0 None h (omega arith) refl
       (target s.program.picks list k to e))
 
   -- to the next instruction, with so many operands taken
@@ -177,134 +183,101 @@ module _ (owned : Owned) where
 
   instruction_stands : (s : Site) (instr : Instr) (values : List Val) → 1 ≤ s.workers → IsAt s.program s.stack instr
       → Behind s.program owned s.stack (row_of s instr) values
-  instruction_stands s i.ThreadNumber values some h =
+  instruction_stands s (i.Team teams.ThreadNumber) values some h =
       inl ((
-        leads s.program s.stack i.ThreadNumber (next s) 0 (Some (Int (pos (context s).team.number))) h
+        leads s.program s.stack (i.Team teams.ThreadNumber) (next s) 0 (Some (Int (pos (context s).team.number))) h
             (omega arith) refl (Contains-here (next s) []),
         tt,
       ))
-  instruction_stands s i.TeamSize values some h =
+  instruction_stands s (i.Team teams.TeamSize) values some h =
       inl ((
-        leads s.program s.stack i.TeamSize (next s) 0 (Some (Int (pos (context s).team.size))) h (omega arith) refl
+        leads s.program s.stack (i.Team teams.TeamSize) (next s) 0 (Some (Int (pos (context s).team.size))) h (omega arith) refl
             (Contains-here (next s) []),
         tt,
       ))
-  instruction_stands s (i.Call body count) values some h =
+  instruction_stands s (i.Function (calls.Call body count)) values some h =
       inl (called s body count values h)
-  instruction_stands s i.Return values some h =
+  instruction_stands s (i.Function calls.Return) values some h =
       inl (return_stands s.program owned s.stack (context s) (slots s) (context s).callers
       (option_map Int (int_at 0 (operands s))) values h.control)
-  instruction_stands s i.ReturnNothing values some h =
+  instruction_stands s (i.Function calls.ReturnNothing) values some h =
       inl (return_stands s.program owned s.stack (context s) (slots s) (context s).callers (Some NoValue) values h.control)
-  instruction_stands s (i.Reduce reduction copy place) values some h =
+  instruction_stands s (i.Sharing (sharings.Reduce reduction copy place)) values some h =
       inl (reduce_stands s.program owned s.stack (context s) reduction copy place values
-      (to_next s (i.Reduce reduction copy place) 0 refl h refl refl))
-  instruction_stands s (i.Fork body sized count) values some h =
+      (to_next s (i.Sharing (sharings.Reduce reduction copy place)) 0 refl h refl refl))
+  instruction_stands s (i.Team (teams.Fork body sized count)) values some h =
       inl (forked s body count sized values some h)
-  instruction_stands s i.Begin values some h =
-      inl (begin_stands s.program owned s.stack s.worker (next s) (context s) values (to_next s i.Begin 0 refl h refl refl))
-  instruction_stands s (i.Arrive barrier) values some h =
+  instruction_stands s (i.Team teams.Begin) values some h =
+      inl (begin_stands s.program owned s.stack s.worker (next s) (context s) values (to_next s (i.Team teams.Begin) 0 refl h refl refl))
+  instruction_stands s (i.Team (teams.Arrive barrier)) values some h =
       inl (arrive_stands s.program owned s.stack s.worker (next s) barrier (context s) values
-      (to_next s (i.Arrive barrier) 0 refl h refl refl))
-  instruction_stands s (i.Depart barrier) values some h =
+      (to_next s (i.Team (teams.Arrive barrier)) 0 refl h refl refl))
+  instruction_stands s (i.Team (teams.Depart barrier)) values some h =
       inl (depart_stands s.program owned s.stack s.worker (next s) barrier (context s) values
-      (to_next s (i.Depart barrier) 0 refl h refl refl))
-  instruction_stands s i.Leave values some h =
+      (to_next s (i.Team (teams.Depart barrier)) 0 refl h refl refl))
+  instruction_stands s (i.Team teams.Leave) values some h =
       inl (leave_stands s.program owned s.stack s.worker (context s) s.stack.below (slots s) (context s).kind
       (context s).team.number values h.control)
-  instruction_stands s (i.Loop form) values some h =
+  instruction_stands s (i.Sharing (sharings.Loop form)) values some h =
       inl (loop_stands s.program owned s.stack s.worker (next s) (context s) form (int_at 1 (operands s))
-      (int_at 0 (operands s)) values (to_next s (i.Loop form) 2 refl h refl refl))
-  instruction_stands s (i.Sections count) values some h =
+      (int_at 0 (operands s)) values (to_next s (i.Sharing (sharings.Loop form)) 2 refl h refl refl))
+  instruction_stands s (i.Sharing (sharings.Sections count)) values some h =
       inl (sections_stand s.program owned s.stack s.worker (next s) (context s) count values
-      (to_next s (i.Sections count) 0 refl h refl refl))
-  instruction_stands s (i.Grab otherwise) values some h =
+      (to_next s (i.Sharing (sharings.Sections count)) 0 refl h refl refl))
+  instruction_stands s (i.Sharing (sharings.Grab otherwise)) values some h =
       inl (grab_stands s.program owned s.stack (next s) otherwise (context s) (share_in (context s)) values
-      (to_first s (i.Grab otherwise) otherwise 0 refl h refl refl)
-      (to_other s (i.Grab otherwise) otherwise 0 refl h refl refl))
-  instruction_stands s (i.Iterate slot otherwise) values some h =
+      (to_first s (i.Sharing (sharings.Grab otherwise)) otherwise 0 refl h refl refl)
+      (to_other s (i.Sharing (sharings.Grab otherwise)) otherwise 0 refl h refl refl))
+  instruction_stands s (i.Sharing (sharings.Iterate slot otherwise)) values some h =
       inl (iterate_stands s.program owned s.stack (next s) otherwise (context s) slot (share_in (context s)) values
-      (to_first s (i.Iterate slot otherwise) otherwise 0 refl h refl refl)
-      (to_other s (i.Iterate slot otherwise) otherwise 0 refl h refl refl))
-  instruction_stands s (i.Pick list) values some h =
+      (to_first s (i.Sharing (sharings.Iterate slot otherwise)) otherwise 0 refl h refl refl)
+      (to_other s (i.Sharing (sharings.Iterate slot otherwise)) otherwise 0 refl h refl refl))
+  instruction_stands s (i.Sharing (sharings.Pick list)) values some h =
       inl (picked s list values h)
-  instruction_stands s (i.Single otherwise) values some h =
+  instruction_stands s (i.Sharing (sharings.Single otherwise)) values some h =
       inl (single_stands s.program owned s.stack s.worker (next s) otherwise (context s) values
-      (to_first s (i.Single otherwise) otherwise 0 refl h refl refl)
-      (to_other s (i.Single otherwise) otherwise 0 refl h refl refl))
-  instruction_stands s i.EndWorksharing values some h =
+      (to_first s (i.Sharing (sharings.Single otherwise)) otherwise 0 refl h refl refl)
+      (to_other s (i.Sharing (sharings.Single otherwise)) otherwise 0 refl h refl refl))
+  instruction_stands s (i.Sharing sharings.EndWorksharing) values some h =
       inl (end_worksharing_stands s.program owned s.stack s.worker (next s) (context s)
-      (innermost (context s).constructs) values (to_next s i.EndWorksharing 0 refl h refl refl))
-  instruction_stands s (i.Masked otherwise) values some h =
+      (innermost (context s).constructs) values (to_next s (i.Sharing sharings.EndWorksharing) 0 refl h refl refl))
+  instruction_stands s (i.Region (regionals.Masked otherwise)) values some h =
       inl (masked_stands s.program owned s.stack s.worker (next s) otherwise (context s) (int_at 0 (operands s)) values
-      (to_first s (i.Masked otherwise) otherwise 1 refl h refl refl)
-      (to_other s (i.Masked otherwise) otherwise 1 refl h refl refl))
-  instruction_stands s i.EndMasked values some h =
+      (to_first s (i.Region (regionals.Masked otherwise)) otherwise 1 refl h refl refl)
+      (to_other s (i.Region (regionals.Masked otherwise)) otherwise 1 refl h refl refl))
+  instruction_stands s (i.Region regionals.EndMasked) values some h =
       inl (end_masked_stands s.program owned s.stack s.worker (next s) (context s)
-      (innermost (context s).constructs) values (to_next s i.EndMasked 0 refl h refl refl))
-  instruction_stands s (i.AskCritical lock) values some h =
+      (innermost (context s).constructs) values (to_next s (i.Region regionals.EndMasked) 0 refl h refl refl))
+  instruction_stands s (i.Region (regionals.AskCritical lock)) values some h =
       inl (ask_critical_stands s.program owned s.stack s.worker (next s) (lock_of s.program lock) values
-      (to_next s (i.AskCritical lock) 0 refl h refl refl))
-  instruction_stands s (i.EnterCritical lock) values some h =
+      (to_next s (i.Region (regionals.AskCritical lock)) 0 refl h refl refl))
+  instruction_stands s (i.Region (regionals.EnterCritical lock)) values some h =
       inl (enter_critical_stands s.program owned s.stack s.worker (next s) lock (lock_of s.program lock) values
-      (to_next s (i.EnterCritical lock) 0 refl h refl refl))
-  instruction_stands s (i.LeaveCritical lock) values some h =
+      (to_next s (i.Region (regionals.EnterCritical lock)) 0 refl h refl refl))
+  instruction_stands s (i.Region (regionals.LeaveCritical lock)) values some h =
       inl (leave_critical_stands s.program owned s.stack s.worker (next s) lock (lock_of s.program lock)
-      (innermost (context s).constructs) values (to_next s (i.LeaveCritical lock) 0 refl h refl refl))
-  instruction_stands s (i.Spawn body count) values some h =
+      (innermost (context s).constructs) values (to_next s (i.Region (regionals.LeaveCritical lock)) 0 refl h refl refl))
+  instruction_stands s (i.Task (taskings.Spawn body count)) values some h =
       inr (spawned s body count values h)
-  instruction_stands s i.TaskEnd values some h =
+  instruction_stands s (i.Task taskings.TaskEnd) values some h =
       inl (task_end_stands s.program owned s.stack s.worker s.stack (slots s) values h.control)
-  instruction_stands s i.WaitBegin values some h =
+  instruction_stands s (i.Task taskings.WaitBegin) values some h =
       inl (wait_begin_stands s.program owned s.stack s.worker (next s) (context s) values
-      (to_next s i.WaitBegin 0 refl h refl refl))
-  instruction_stands s i.WaitEnd values some h =
+      (to_next s (i.Task taskings.WaitBegin) 0 refl h refl refl))
+  instruction_stands s (i.Task taskings.WaitEnd) values some h =
       inl (wait_end_stands s.program owned s.stack s.worker (next s) (context s) values
-      (to_next s i.WaitEnd 0 refl h refl refl))
-  instruction_stands s i.Yield values some h =
-      inl ((to_next s i.Yield 0 refl h refl refl, tt))
-  instruction_stands s i.GroupBegin values some h =
+      (to_next s (i.Task taskings.WaitEnd) 0 refl h refl refl))
+  instruction_stands s (i.Task taskings.Yield) values some h =
+      inl ((to_next s (i.Task taskings.Yield) 0 refl h refl refl, tt))
+  instruction_stands s (i.Task taskings.GroupBegin) values some h =
       inl (group_begin_stands s.program owned s.stack s.worker (next s) (context s) values
-      (to_next s i.GroupBegin 0 refl h refl refl))
-  instruction_stands s i.GroupEnd values some h =
+      (to_next s (i.Task taskings.GroupBegin) 0 refl h refl refl))
+  instruction_stands s (i.Task taskings.GroupEnd) values some h =
       inl (group_end_stands s.program owned s.stack s.worker (next s) (context s) values
-      (to_next s i.GroupEnd 0 refl h refl refl))
-  instruction_stands s (i.Finish has_value) values some h =
+      (to_next s (i.Task taskings.GroupEnd) 0 refl h refl refl))
+  instruction_stands s (i.Function (calls.Finish has_value)) values some h =
       inl (finish_stands s.program owned s.stack s.worker (context s) has_value values)
-  instruction_stands s (i.Constant k) values some h =
-      inl (serial s.program s.stack (i.Constant k) values h)
-  instruction_stands s i.Duplicate values some h =
-      inl (serial s.program s.stack i.Duplicate values h)
-  instruction_stands s i.Pop values some h =
-      inl (serial s.program s.stack i.Pop values h)
-  instruction_stands s i.Nop values some h =
-      inl (serial s.program s.stack i.Nop values h)
-  instruction_stands s i.Use values some h =
-      inl (serial s.program s.stack i.Use values h)
-  instruction_stands s (i.Unary operator) values some h =
-      inl (serial s.program s.stack (i.Unary operator) values h)
-  instruction_stands s (i.Binary operator) values some h =
-      inl (serial s.program s.stack (i.Binary operator) values h)
-  instruction_stands s (i.Jump target) values some h =
-      inl (serial s.program s.stack (i.Jump target) values h)
-  instruction_stands s (i.JumpIfZero target) values some h =
-      inl (serial s.program s.stack (i.JumpIfZero target) values h)
-  instruction_stands s (i.Load place) values some h =
-      inl (serial s.program s.stack (i.Load place) values h)
-  instruction_stands s (i.Store place keeps) values some h =
-      inl (serial s.program s.stack (i.Store place keeps) values h)
-  instruction_stands s (i.LoadElement place) values some h =
-      inl (serial s.program s.stack (i.LoadElement place) values h)
-  instruction_stands s (i.StoreElement place keeps) values some h =
-      inl (serial s.program s.stack (i.StoreElement place keeps) values h)
-  instruction_stands s (i.Clear slot) values some h =
-      inl (serial s.program s.stack (i.Clear slot) values h)
-  instruction_stands s (i.Print text count) values some h =
-      inl (serial s.program s.stack (i.Print text count) values h)
-  instruction_stands s (i.Atomic operator side place) values some h =
-      inl (serial s.program s.stack (i.Atomic operator side place) values h)
-  instruction_stands s (i.AtomicElement operator side place) values some h =
-      inl (serial s.program s.stack (i.AtomicElement operator side place) values h)
+  instruction_stands s (i.Serial x) values some h = inl (serial s.program s.stack x values h)
 
   choice_stands : (s : Site) (instr : Instr) (choice : Choice) (t : State) → 1 ≤ s.workers
       → IsAt s.program s.stack instr → IsStanding s.program owned t

@@ -6,7 +6,8 @@ use Rattle.om_code.specs.declared.frame.Cell.TheVariants as cell
 use Rattle.om_code.specs.declared.frame.Operand.{Operand}
 use Rattle.om_code.specs.declared.frame.Operand.TheVariants as operand
 use Rattle.om_code.specs.declared.instruction.Instr.{Instr}
-use Rattle.om_code.specs.declared.instruction.Instr.TheVariants.{Constant}
+use Rattle.om_code.specs.declared.instruction.Instr.TheVariants as i
+use Rattle.om_code.specs.declared.instruction.Serial.TheVariants.{Constant}
 use Rattle.om_code.specs.declared.raw.Body.{Body}
 use Rattle.om_code.specs.declared.raw.Raw.{Raw}
 use Rattle.om_state.specs.declared.control.Construct.{Construct}
@@ -25,7 +26,7 @@ use Rattle.om_state.specs.State.{State}
 -- ---- programs
 
 abbrev pub HasIntConstant : Instr → Type 0
-HasIntConstant (Constant value) = IsInt value
+HasIntConstant (i.Serial (Constant value)) = IsInt value
 HasIntConstant _ = Unit {0}
 
 abbrev pub HasIntConstants : Body → Type 0

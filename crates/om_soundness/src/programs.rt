@@ -4,7 +4,7 @@ ghost use Rattle.std.specs.Prelude.{All};
 ghost use Rattle.om_soundness.specs.Ints.{IsInt, HasIntConstant, HasIntConstants, IsOfInts};
 
 use om_code::raw::{GlobalVariable, Line};
-use om_code::{Body, Instr, Raw};
+use om_code::{Body, Instr, Raw, Serial};
 
 /// Each constant and each initial value of a program is an int, whatever the program: their types have
 /// no other values. It only reads.
@@ -37,7 +37,7 @@ fn lines_are_of_ints(lines: &[Line])
 fn is_of_ints(line: &Line)
     ensures { HasIntConstant line.now.instruction }
 {
-    if let Instr::Constant(value) = line.instruction {
+    if let Instr::Serial(Serial::Constant(value)) = line.instruction {
         is_int(value);
     }
 }

@@ -22,7 +22,7 @@ use Rattle.om_team_serial.specs.declared.row.Row.{Row}
 use Rattle.om_team_serial.specs.declared.row.Row.TheVariants as row
 use Rattle.om_team.specs.Counters.{IsWithin, AreWithin, ControlWithin, TaskWithin, ValueWithin}
 use Rattle.om_task.specs.Laws.{CalmRules}
-use Rattle.om_team.specs.Sites.{site}
+use Rattle.om_team_serial.specs.Sites.{site}
 use Rattle.om_task.specs.Rules.{start_of, further_in, row_in, outcome_of, outcome_after}
 use Rattle.om_task.specs.Steps.{AddOnce, AreModest}
 use Rattle.om_task.proofs.Bounds.{AreGentle, RowWithin, ValuesWithin}

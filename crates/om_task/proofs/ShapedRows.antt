@@ -3,6 +3,11 @@ use Rattle.std.proofs.Common.{ℕ, List, ◌∷◌, Option, None, Some, option_m
 use Rattle.om_code.specs.declared.frame.Operand.TheVariants.{Int, NoValue}
 use Rattle.om_code.specs.declared.instruction.Instr.{Instr}
 use Rattle.om_code.specs.declared.instruction.Instr.TheVariants as i
+use Rattle.om_code.specs.declared.instruction.Function.TheVariants as calls
+use Rattle.om_code.specs.declared.instruction.Team.TheVariants as teams
+use Rattle.om_code.specs.declared.instruction.Sharing.TheVariants as sharings
+use Rattle.om_code.specs.declared.instruction.Region.TheVariants as regionals
+use Rattle.om_code.specs.declared.instruction.Task.TheVariants as taskings
 use Rattle.om_code.specs.declared.raw.Raw.{Raw}
 use Rattle.om_code.specs.Frames.{int_at}
 use Rattle.om_code.specs.Places.{instruction_at}
@@ -16,7 +21,7 @@ use Rattle.om_state.specs.declared.value.Val.{Val}
 use Rattle.om_team_serial.specs.declared.row.Row.TheVariants.{Lacks}
 use Rattle.om_team_serial.specs.Objects.{innermost}
 use Rattle.om_team_worksharing.specs.Rows.{share_in}
-use Rattle.om_team.specs.Sites.{Site, site, context, operands, next, slots, line, launch, body_of, lock_of, targets_of}
+use Rattle.om_team_serial.specs.Sites.{Site, site, context, operands, next, slots, line, launch, body_of, lock_of, targets_of}
 use Rattle.om_team.specs.Table.{fork_takes}
 use Rattle.om_task.specs.Rules.{choice_row, next_row, leaving, admits_all, further_in, row_in}
 use Rattle.om_task.specs.Table.{row_of}
@@ -32,67 +37,49 @@ use Rattle.om_task.proofs.ShapedTasks.{spawn_shaped, task_end_shaped, wait_begin
 use Rattle.om_task.proofs.ShapedTasks.{group_begin_shaped, group_end_shaped, start_shaped}
 
 instruction_shaped : (s : Site) (instr : Instr) → AskedShaped (row_of s instr)
-instruction_shaped s i.ThreadNumber = number_shaped (context s) (context s).team.number
-instruction_shaped s i.TeamSize = number_shaped (context s) (context s).team.size
-instruction_shaped s (i.Call body count) = call_shaped (launch s count body) (body_of s.program body) (context s)
+instruction_shaped s (i.Team teams.ThreadNumber) = number_shaped (context s) (context s).team.number
+instruction_shaped s (i.Team teams.TeamSize) = number_shaped (context s) (context s).team.size
+instruction_shaped s (i.Function (calls.Call body count)) = call_shaped (launch s count body) (body_of s.program body) (context s)
     (ints_on count (operands s))
-instruction_shaped s i.Return = return_shaped (context s) (slots s) (context s).callers
+instruction_shaped s (i.Function calls.Return) = return_shaped (context s) (slots s) (context s).callers
     (option_map Int (int_at 0 (operands s)))
-instruction_shaped s i.ReturnNothing = return_shaped (context s) (slots s) (context s).callers (Some NoValue)
-instruction_shaped s (i.Reduce reduction copy place) = reduce_shaped (context s) reduction copy place
-instruction_shaped s (i.Fork body sized count) = fork_shaped s.worker s.workers
+instruction_shaped s (i.Function calls.ReturnNothing) = return_shaped (context s) (slots s) (context s).callers (Some NoValue)
+instruction_shaped s (i.Sharing (sharings.Reduce reduction copy place)) = reduce_shaped (context s) reduction copy place
+instruction_shaped s (i.Team (teams.Fork body sized count)) = fork_shaped s.worker s.workers
     (launch s (fork_takes sized count) body) (body_of s.program body) (context s) sized (int_at count (operands s))
     (ints_on count (operands s))
-instruction_shaped s i.Begin = begin_shaped s.worker (next s) (context s)
-instruction_shaped s (i.Arrive barrier) = arrive_shaped s.worker (next s) barrier (context s)
-instruction_shaped s (i.Depart barrier) = depart_shaped s.worker (next s) barrier (context s)
-instruction_shaped s i.Leave = leave_shaped s.worker (context s) s.stack.below (slots s) (context s).kind
+instruction_shaped s (i.Team teams.Begin) = begin_shaped s.worker (next s) (context s)
+instruction_shaped s (i.Team (teams.Arrive barrier)) = arrive_shaped s.worker (next s) barrier (context s)
+instruction_shaped s (i.Team (teams.Depart barrier)) = depart_shaped s.worker (next s) barrier (context s)
+instruction_shaped s (i.Team teams.Leave) = leave_shaped s.worker (context s) s.stack.below (slots s) (context s).kind
     (context s).team.number
-instruction_shaped s (i.Finish has_value) = finish_shaped s.worker (context s) has_value
-instruction_shaped s (i.Loop form) = loop_shaped s.worker (next s) (context s) form (int_at 1 (operands s))
+instruction_shaped s (i.Function (calls.Finish has_value)) = finish_shaped s.worker (context s) has_value
+instruction_shaped s (i.Sharing (sharings.Loop form)) = loop_shaped s.worker (next s) (context s) form (int_at 1 (operands s))
     (int_at 0 (operands s))
-instruction_shaped s (i.Sections count) = sections_shaped s.worker (next s) (context s) count
-instruction_shaped s (i.Grab otherwise) = grab_shaped (next s) otherwise (context s) (share_in (context s))
-instruction_shaped s (i.Iterate slot otherwise) = iterate_shaped (next s) otherwise (context s) slot
+instruction_shaped s (i.Sharing (sharings.Sections count)) = sections_shaped s.worker (next s) (context s) count
+instruction_shaped s (i.Sharing (sharings.Grab otherwise)) = grab_shaped (next s) otherwise (context s) (share_in (context s))
+instruction_shaped s (i.Sharing (sharings.Iterate slot otherwise)) = iterate_shaped (next s) otherwise (context s) slot
     (share_in (context s))
-instruction_shaped s (i.Pick number) = pick_shaped (targets_of s.program number) (share_in (context s))
-instruction_shaped s (i.Single otherwise) = single_shaped s.worker (next s) otherwise (context s)
-instruction_shaped s i.EndWorksharing = end_worksharing_shaped s.worker (next s) (context s)
+instruction_shaped s (i.Sharing (sharings.Pick number)) = pick_shaped (targets_of s.program number) (share_in (context s))
+instruction_shaped s (i.Sharing (sharings.Single otherwise)) = single_shaped s.worker (next s) otherwise (context s)
+instruction_shaped s (i.Sharing sharings.EndWorksharing) = end_worksharing_shaped s.worker (next s) (context s)
     (innermost (context s).constructs)
-instruction_shaped s (i.Masked otherwise) = masked_shaped s.worker (next s) otherwise (context s)
+instruction_shaped s (i.Region (regionals.Masked otherwise)) = masked_shaped s.worker (next s) otherwise (context s)
     (int_at 0 (operands s))
-instruction_shaped s i.EndMasked = end_masked_shaped s.worker (next s) (context s) (innermost (context s).constructs)
-instruction_shaped s (i.AskCritical lock) = ask_critical_shaped s.worker (next s) (lock_of s.program lock)
-instruction_shaped s (i.EnterCritical lock) = enter_critical_shaped s.worker (next s) lock (lock_of s.program lock)
-instruction_shaped s (i.LeaveCritical lock) = leave_critical_shaped s.worker (next s) lock (lock_of s.program lock)
+instruction_shaped s (i.Region regionals.EndMasked) = end_masked_shaped s.worker (next s) (context s) (innermost (context s).constructs)
+instruction_shaped s (i.Region (regionals.AskCritical lock)) = ask_critical_shaped s.worker (next s) (lock_of s.program lock)
+instruction_shaped s (i.Region (regionals.EnterCritical lock)) = enter_critical_shaped s.worker (next s) lock (lock_of s.program lock)
+instruction_shaped s (i.Region (regionals.LeaveCritical lock)) = leave_critical_shaped s.worker (next s) lock (lock_of s.program lock)
     (innermost (context s).constructs)
-instruction_shaped s (i.Spawn body count) = spawn_shaped
+instruction_shaped s (i.Task (taskings.Spawn body count)) = spawn_shaped
     (record { worker = s.worker; line = line s; launch = launch s count body }) (body_of s.program body) (context s)
-instruction_shaped s i.TaskEnd = task_end_shaped s.worker s.stack (slots s)
-instruction_shaped s i.WaitBegin = wait_begin_shaped s.worker (next s) (context s)
-instruction_shaped s i.WaitEnd = wait_end_shaped s.worker (next s) (context s)
-instruction_shaped s i.Yield = yield_shaped (next s)
-instruction_shaped s i.GroupBegin = group_begin_shaped s.worker (next s) (context s)
-instruction_shaped s i.GroupEnd = group_end_shaped s.worker (next s) (context s)
-instruction_shaped s (i.Constant k) = serial_shaped s.program (context s) (i.Constant k)
-instruction_shaped s i.Duplicate = serial_shaped s.program (context s) i.Duplicate
-instruction_shaped s i.Pop = serial_shaped s.program (context s) i.Pop
-instruction_shaped s i.Nop = serial_shaped s.program (context s) i.Nop
-instruction_shaped s i.Use = serial_shaped s.program (context s) i.Use
-instruction_shaped s (i.Unary operator) = serial_shaped s.program (context s) (i.Unary operator)
-instruction_shaped s (i.Binary operator) = serial_shaped s.program (context s) (i.Binary operator)
-instruction_shaped s (i.Jump target) = serial_shaped s.program (context s) (i.Jump target)
-instruction_shaped s (i.JumpIfZero target) = serial_shaped s.program (context s) (i.JumpIfZero target)
-instruction_shaped s (i.Load place) = serial_shaped s.program (context s) (i.Load place)
-instruction_shaped s (i.Store place keeps) = serial_shaped s.program (context s) (i.Store place keeps)
-instruction_shaped s (i.LoadElement place) = serial_shaped s.program (context s) (i.LoadElement place)
-instruction_shaped s (i.StoreElement place keeps) = serial_shaped s.program (context s) (i.StoreElement place keeps)
-instruction_shaped s (i.Clear slot) = serial_shaped s.program (context s) (i.Clear slot)
-instruction_shaped s (i.Print text count) = serial_shaped s.program (context s) (i.Print text count)
-instruction_shaped s (i.Atomic operator side place) = serial_shaped s.program (context s)
-    (i.Atomic operator side place)
-instruction_shaped s (i.AtomicElement operator side place) = serial_shaped s.program (context s)
-    (i.AtomicElement operator side place)
+instruction_shaped s (i.Task taskings.TaskEnd) = task_end_shaped s.worker s.stack (slots s)
+instruction_shaped s (i.Task taskings.WaitBegin) = wait_begin_shaped s.worker (next s) (context s)
+instruction_shaped s (i.Task taskings.WaitEnd) = wait_end_shaped s.worker (next s) (context s)
+instruction_shaped s (i.Task taskings.Yield) = yield_shaped (next s)
+instruction_shaped s (i.Task taskings.GroupBegin) = group_begin_shaped s.worker (next s) (context s)
+instruction_shaped s (i.Task taskings.GroupEnd) = group_end_shaped s.worker (next s) (context s)
+instruction_shaped s (i.Serial x) = serial_shaped s.program (context s) x
 
 next_shaped : (s : Site) (instr : Option Instr) → AskedShaped (next_row s instr)
 next_shaped s None = by_control Lacks

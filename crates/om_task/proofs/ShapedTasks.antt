@@ -7,16 +7,16 @@ use Rattle.om_code.specs.declared.frame.Cell.TheVariants as cell
 use Rattle.om_code.specs.declared.frame.Fault.TheVariants as fault
 use Rattle.om_code.specs.declared.frame.Operand.{Operand}
 use Rattle.om_code.specs.declared.instruction.Barrier.{Barrier}
-use Rattle.om_code.specs.declared.instruction.Instr.{Instr}
+use Rattle.om_code.specs.declared.instruction.Serial.{Serial}
 use Rattle.om_code.specs.declared.instruction.Place.{Place}
 use Rattle.om_code.specs.declared.instruction.Place.TheVariants as place
 use Rattle.om_code.specs.declared.instruction.Reduction.{Reduction}
 use Rattle.om_code.specs.declared.raw.Body.{Body}
 use Rattle.om_code.specs.declared.raw.Raw.{Raw}
 use Rattle.om_code.specs.declared.raw.Slot.{Slot}
-use Rattle.om_code.specs.declared.serial.Touch.{Touch}
-use Rattle.om_code.specs.declared.serial.Touch.TheVariants as touch
-use Rattle.om_code.specs.declared.serial.Turn.{Turn}
+use Rattle.om_code.specs.Frames.{Touch}
+use Rattle.om_code.specs.Frames as touch
+use Rattle.om_code.specs.declared.act.Turn.{Turn}
 use Rattle.om_code.specs.Frames.{act}
 use Rattle.om_code.specs.Printing.{ints_on}
 use Rattle.om_events.specs.declared.kind.TaskStatus as statuses
@@ -33,7 +33,8 @@ use Rattle.om_team_serial.specs.Rows.{first_of, rest_of}
 use Rattle.om_team_serial.specs.SerialRows.{touch_row, serial_row, slots_in, number_row, call_row, return_row, reduce_row}
 use Rattle.om_team_serial.specs.SerialRows.{unsets, cells_of_slot}
 use Rattle.om_team_worksharing.specs.Barriers.{is_open}
-use Rattle.om_team.specs.Rows.{begin_row, value_of, finished_row, finish_row}
+use Rattle.om_team.specs.Rows.{begin_row}
+use Rattle.om_team_serial.specs.Ends.{value_of, finished_row, finish_row}
 use Rattle.om_team_worksharing.specs.Rows.{reached_row, is_misplaced_barrier, arrive_row, depart_row, left_row, leave_row}
 use Rattle.om_task.specs.declared.task_start.Starting.{Starting}
 use Rattle.om_task.specs.declared.task.Making.{Making}
@@ -56,7 +57,7 @@ touch_shaped raw c t (touch.Clears slot) = of_cells _ (slot_none _ _ slot _ 0 _)
     (λ values. turn_cells (c.frame.next + 1) (unsets (cells_of_slot raw c slot)) (t cell.Unset) (unsets_cells _))
 touch_shaped raw c t (touch.Prints text count) = apart _ (refl, tt) (refl, tt)
 
-pub serial_shaped : (raw : Raw) (c : Context) (instr : Instr) → AskedShaped (serial_row raw c instr)
+pub serial_shaped : (raw : Raw) (c : Context) (instr : Serial) → AskedShaped (serial_row raw c instr)
 serial_shaped raw c instr = touch_shaped raw c (act raw (slots_in raw c) instr c.frame.operands).turn
     (act raw (slots_in raw c) instr c.frame.operands).touch
 

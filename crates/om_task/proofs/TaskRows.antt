@@ -12,16 +12,16 @@ use Rattle.om_code.specs.declared.frame.Fault.{Fault}
 use Rattle.om_code.specs.declared.frame.Fault.TheVariants as fault
 use Rattle.om_code.specs.declared.frame.Operand.{Operand}
 use Rattle.om_code.specs.declared.instruction.Barrier.{Barrier}
-use Rattle.om_code.specs.declared.instruction.Instr.{Instr}
+use Rattle.om_code.specs.declared.instruction.Serial.{Serial}
 use Rattle.om_code.specs.declared.instruction.Place.{Place}
 use Rattle.om_code.specs.declared.instruction.Reduction.{Reduction}
 use Rattle.om_code.specs.declared.raw.Body.{Body}
 use Rattle.om_code.specs.declared.raw.Raw.{Raw}
 use Rattle.om_code.specs.declared.raw.Slot.{Slot}
-use Rattle.om_code.specs.declared.serial.Touch.{Touch}
-use Rattle.om_code.specs.declared.serial.Touch.TheVariants as touch
-use Rattle.om_code.specs.declared.serial.Turn.{Turn}
-use Rattle.om_code.specs.declared.serial.Turn.TheVariants as turn
+use Rattle.om_code.specs.Frames.{Touch}
+use Rattle.om_code.specs.Frames as touch
+use Rattle.om_code.specs.declared.act.Turn.{Turn}
+use Rattle.om_code.specs.declared.act.Turn.TheVariants as turn
 use Rattle.om_code.specs.Arithmetic.{combine}
 use Rattle.om_code.specs.Frames.{act}
 use Rattle.om_code.specs.Printing.{ints_on}
@@ -57,7 +57,7 @@ use Rattle.om_task.specs.Tasks.{born, group_of, innermost_group, counts, additio
 use Rattle.om_task.specs.Rows.{made_row, given_row, spawn_row, ended_row, end_row_of, task_end_row, wait_begin_row}
 use Rattle.om_task.specs.Rows.{waited, wait_end_row, task_yield_row, opened_row, group_begin_row, closed, closed_row}
 use Rattle.om_task.specs.Rows.{group_end_row, ready_for, started}
-use Rattle.om_team.specs.Rows.{value_of, finished, finished_row, finish_row}
+use Rattle.om_team_serial.specs.Ends.{value_of, finished, finished_row, finish_row}
 use Rattle.om_task.specs.Rows.{started_row, start_row}
 use Rattle.om_team.specs.Counters.{IsWithin, TaskWithin, ValueWithin}
 use Rattle.om_task.specs.Steps.{AddOnce}
@@ -99,7 +99,7 @@ touch_within n raw c t (touch.Clears slot) values = plain n _ values (slot_none 
 touch_within n raw c t (touch.Prints text count) values = plain n _ values (refl, tt)
     (turn_within n (c.frame.next + 1) _ (t cell.Unset) (tt, tt))
 
-pub serial_within : (n : ℕ) (raw : Raw) (c : Context) (instr : Instr) (values : List Val)
+pub serial_within : (n : ℕ) (raw : Raw) (c : Context) (instr : Serial) (values : List Val)
     → AskedWithin n (serial_row raw c instr) values
 serial_within n raw c instr values = touch_within n raw c (act raw (slots_in raw c) instr c.frame.operands).turn
     (act raw (slots_in raw c) instr c.frame.operands).touch values

@@ -3,6 +3,11 @@ use Rattle.std.proofs.Common.{ℕ, List, ◌∷◌, Option, None, Some, option_m
 use Rattle.om_code.specs.declared.frame.Operand.TheVariants.{Int, NoValue}
 use Rattle.om_code.specs.declared.instruction.Instr.{Instr}
 use Rattle.om_code.specs.declared.instruction.Instr.TheVariants as i
+use Rattle.om_code.specs.declared.instruction.Function.TheVariants as calls
+use Rattle.om_code.specs.declared.instruction.Team.TheVariants as teams
+use Rattle.om_code.specs.declared.instruction.Sharing.TheVariants as sharings
+use Rattle.om_code.specs.declared.instruction.Region.TheVariants as regionals
+use Rattle.om_code.specs.declared.instruction.Task.TheVariants as taskings
 use Rattle.om_code.specs.declared.raw.Raw.{Raw}
 use Rattle.om_code.specs.Frames.{int_at}
 use Rattle.om_code.specs.Places.{instruction_at}
@@ -16,9 +21,9 @@ use Rattle.om_state.specs.declared.value.Val.{Val}
 use Rattle.om_team_serial.specs.Objects.{innermost}
 use Rattle.om_team_worksharing.specs.Rows.{share_in}
 use Rattle.om_team.specs.Counters.{IsWithin, ControlWithin}
-use Rattle.om_team.specs.Sites.{site}
+use Rattle.om_team_serial.specs.Sites.{site}
 use Rattle.om_task.specs.Rules.{choice_row, next_row, leaving, admits_all, row_in}
-use Rattle.om_team.specs.Sites.{Site, context, operands, next, slots, line, launch, body_of, lock_of, targets_of}
+use Rattle.om_team_serial.specs.Sites.{Site, context, operands, next, slots, line, launch, body_of, lock_of, targets_of}
 use Rattle.om_task.proofs.Bounds.{RowWithin, AskedWithin, ValuesWithin}
 use Rattle.om_task.specs.Table.{row_of}
 use Rattle.om_team.specs.Table.{fork_takes}
@@ -33,79 +38,57 @@ use Rattle.om_task.proofs.TaskRows.{group_begin_within, group_end_within, finish
 
 instruction_within : (n : ℕ) (s : Site) (instr : Instr) (values : List Val) → IsWithin n s.stack.top
     → AskedWithin n (row_of s instr) values
-instruction_within n s i.ThreadNumber values w = number_within n (context s) (context s).team.number values
-instruction_within n s i.TeamSize values w = number_within n (context s) (context s).team.size values
-instruction_within n s (i.Call body count) values w = call_within n (launch s count body) (body_of s.program body)
+instruction_within n s (i.Team teams.ThreadNumber) values w = number_within n (context s) (context s).team.number values
+instruction_within n s (i.Team teams.TeamSize) values w = number_within n (context s) (context s).team.size values
+instruction_within n s (i.Function (calls.Call body count)) values w = call_within n (launch s count body) (body_of s.program body)
     (context s) (ints_on count (operands s)) values
-instruction_within n s i.Return values w = return_within n (context s) (slots s) (context s).callers
+instruction_within n s (i.Function calls.Return) values w = return_within n (context s) (slots s) (context s).callers
     (option_map Int (int_at 0 (operands s))) values
-instruction_within n s i.ReturnNothing values w = return_within n (context s) (slots s) (context s).callers
+instruction_within n s (i.Function calls.ReturnNothing) values w = return_within n (context s) (slots s) (context s).callers
     (Some NoValue) values
-instruction_within n s (i.Reduce reduction copy place) values w = reduce_within n (context s) reduction copy place
+instruction_within n s (i.Sharing (sharings.Reduce reduction copy place)) values w = reduce_within n (context s) reduction copy place
     values
-instruction_within n s (i.Fork body sized count) values w = fork_within n s.worker s.workers
+instruction_within n s (i.Team (teams.Fork body sized count)) values w = fork_within n s.worker s.workers
     (launch s (fork_takes sized count) body) (body_of s.program body) (context s) sized (int_at count (operands s))
     (ints_on count (operands s)) values
-instruction_within n s i.Begin values w = begin_within n s.worker (next s) (context s) values
-instruction_within n s (i.Arrive barrier) values w = arrive_within n s.worker (next s) barrier (context s) values
-instruction_within n s (i.Depart barrier) values w = depart_within n s.worker (next s) barrier (context s) values
-instruction_within n s i.Leave values w = leave_within n s.worker (context s) s.stack.below (slots s)
+instruction_within n s (i.Team teams.Begin) values w = begin_within n s.worker (next s) (context s) values
+instruction_within n s (i.Team (teams.Arrive barrier)) values w = arrive_within n s.worker (next s) barrier (context s) values
+instruction_within n s (i.Team (teams.Depart barrier)) values w = depart_within n s.worker (next s) barrier (context s) values
+instruction_within n s (i.Team teams.Leave) values w = leave_within n s.worker (context s) s.stack.below (slots s)
     (context s).kind (context s).team.number values
-instruction_within n s (i.Loop form) values w = loop_within n s.worker (next s) (context s) form
+instruction_within n s (i.Sharing (sharings.Loop form)) values w = loop_within n s.worker (next s) (context s) form
     (int_at 1 (operands s)) (int_at 0 (operands s)) values
-instruction_within n s (i.Sections count) values w = sections_within n s.worker (next s) (context s) count values
-instruction_within n s (i.Grab otherwise) values w = grab_within n (next s) otherwise (context s)
+instruction_within n s (i.Sharing (sharings.Sections count)) values w = sections_within n s.worker (next s) (context s) count values
+instruction_within n s (i.Sharing (sharings.Grab otherwise)) values w = grab_within n (next s) otherwise (context s)
     (share_in (context s)) values
-instruction_within n s (i.Iterate slot otherwise) values w = iterate_within n (next s) otherwise (context s) slot
+instruction_within n s (i.Sharing (sharings.Iterate slot otherwise)) values w = iterate_within n (next s) otherwise (context s) slot
     (share_in (context s)) values
-instruction_within n s (i.Pick number) values w = pick_within n (targets_of s.program number) (share_in (context s))
+instruction_within n s (i.Sharing (sharings.Pick number)) values w = pick_within n (targets_of s.program number) (share_in (context s))
     values
-instruction_within n s (i.Single otherwise) values w = single_within n s.worker (next s) otherwise (context s) values
-instruction_within n s i.EndWorksharing values w = end_worksharing_within n s.worker (next s) (context s)
+instruction_within n s (i.Sharing (sharings.Single otherwise)) values w = single_within n s.worker (next s) otherwise (context s) values
+instruction_within n s (i.Sharing sharings.EndWorksharing) values w = end_worksharing_within n s.worker (next s) (context s)
     (innermost (context s).constructs) values
-instruction_within n s (i.Masked otherwise) values w = masked_within n s.worker (next s) otherwise (context s)
+instruction_within n s (i.Region (regionals.Masked otherwise)) values w = masked_within n s.worker (next s) otherwise (context s)
     (int_at 0 (operands s)) values
-instruction_within n s i.EndMasked values w = end_masked_within n s.worker (next s) (context s)
+instruction_within n s (i.Region regionals.EndMasked) values w = end_masked_within n s.worker (next s) (context s)
     (innermost (context s).constructs) values
-instruction_within n s (i.AskCritical lock) values w = ask_critical_within n s.worker (next s)
+instruction_within n s (i.Region (regionals.AskCritical lock)) values w = ask_critical_within n s.worker (next s)
     (lock_of s.program lock) values
-instruction_within n s (i.EnterCritical lock) values w = enter_critical_within n s.worker (next s) lock
+instruction_within n s (i.Region (regionals.EnterCritical lock)) values w = enter_critical_within n s.worker (next s) lock
     (lock_of s.program lock) values
-instruction_within n s (i.LeaveCritical lock) values w = leave_critical_within n s.worker (next s) lock
+instruction_within n s (i.Region (regionals.LeaveCritical lock)) values w = leave_critical_within n s.worker (next s) lock
     (lock_of s.program lock) (innermost (context s).constructs) values
-instruction_within n s (i.Spawn body count) values w = spawn_within n
+instruction_within n s (i.Task (taskings.Spawn body count)) values w = spawn_within n
     (record { worker = s.worker; line = line s; launch = launch s count body }) (body_of s.program body) (context s)
     values w
-instruction_within n s i.TaskEnd values w = task_end_within n s.worker s.stack (slots s) values
-instruction_within n s i.WaitBegin values w = wait_begin_within n s.worker (next s) (context s) values
-instruction_within n s i.WaitEnd values w = wait_end_within n s.worker (next s) (context s) values
-instruction_within n s i.Yield values w = yield_within n (next s) values
-instruction_within n s i.GroupBegin values w = group_begin_within n s.worker (next s) (context s) values
-instruction_within n s i.GroupEnd values w = group_end_within n s.worker (next s) (context s) values
-instruction_within n s (i.Finish has_value) values w = finish_within n s.worker (context s) has_value values
-instruction_within n s (i.Constant k) values w = serial_within n s.program (context s) (i.Constant k) values
-instruction_within n s i.Duplicate values w = serial_within n s.program (context s) i.Duplicate values
-instruction_within n s i.Pop values w = serial_within n s.program (context s) i.Pop values
-instruction_within n s i.Nop values w = serial_within n s.program (context s) i.Nop values
-instruction_within n s i.Use values w = serial_within n s.program (context s) i.Use values
-instruction_within n s (i.Unary operator) values w = serial_within n s.program (context s) (i.Unary operator) values
-instruction_within n s (i.Binary operator) values w = serial_within n s.program (context s) (i.Binary operator) values
-instruction_within n s (i.Jump target) values w = serial_within n s.program (context s) (i.Jump target) values
-instruction_within n s (i.JumpIfZero target) values w = serial_within n s.program (context s) (i.JumpIfZero target)
-    values
-instruction_within n s (i.Load place) values w = serial_within n s.program (context s) (i.Load place) values
-instruction_within n s (i.Store place keeps) values w = serial_within n s.program (context s) (i.Store place keeps)
-    values
-instruction_within n s (i.LoadElement place) values w = serial_within n s.program (context s) (i.LoadElement place)
-    values
-instruction_within n s (i.StoreElement place keeps) values w = serial_within n s.program (context s)
-    (i.StoreElement place keeps) values
-instruction_within n s (i.Clear slot) values w = serial_within n s.program (context s) (i.Clear slot) values
-instruction_within n s (i.Print text count) values w = serial_within n s.program (context s) (i.Print text count) values
-instruction_within n s (i.Atomic operator side place) values w = serial_within n s.program (context s)
-    (i.Atomic operator side place) values
-instruction_within n s (i.AtomicElement operator side place) values w = serial_within n s.program (context s)
-    (i.AtomicElement operator side place) values
+instruction_within n s (i.Task taskings.TaskEnd) values w = task_end_within n s.worker s.stack (slots s) values
+instruction_within n s (i.Task taskings.WaitBegin) values w = wait_begin_within n s.worker (next s) (context s) values
+instruction_within n s (i.Task taskings.WaitEnd) values w = wait_end_within n s.worker (next s) (context s) values
+instruction_within n s (i.Task taskings.Yield) values w = yield_within n (next s) values
+instruction_within n s (i.Task taskings.GroupBegin) values w = group_begin_within n s.worker (next s) (context s) values
+instruction_within n s (i.Task taskings.GroupEnd) values w = group_end_within n s.worker (next s) (context s) values
+instruction_within n s (i.Function (calls.Finish has_value)) values w = finish_within n s.worker (context s) has_value values
+instruction_within n s (i.Serial x) values w = serial_within n s.program (context s) x values
 
 next_within : (n : ℕ) (s : Site) (instr : Option Instr) (values : List Val) → IsWithin n s.stack.top
     → AskedWithin n (next_row s instr) values

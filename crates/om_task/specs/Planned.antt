@@ -16,7 +16,7 @@ use Rattle.om_memory.specs.Memories.{state_of}
 use Rattle.om_team_serial.specs.declared.row.Answer.{Answer}
 use Rattle.om_team_serial.specs.declared.row.Row.{Row}
 use Rattle.om_team_serial.specs.Rows.{Asked}
-use Rattle.om_team.specs.Sites.{site}
+use Rattle.om_team_serial.specs.Sites.{site}
 use Rattle.om_task.specs.declared.planned.Plan.{Plan}
 use Rattle.om_task.specs.Plans.{answer_in, step_by, StandsFor}
 use Rattle.om_task.specs.Rules.{asked, next_row, outcome_after}

@@ -6,6 +6,9 @@ use Rattle.om_foot.specs.declared.footprint.Access.{Access}
 use Rattle.om_foot.specs.declared.object.Obj.TheVariants as obj
 use Rattle.om_code.specs.declared.instruction.Instr.{Instr}
 use Rattle.om_code.specs.declared.instruction.Instr.TheVariants as i
+use Rattle.om_code.specs.declared.instruction.Function.TheVariants as calls
+use Rattle.om_code.specs.declared.instruction.Team.TheVariants as teams
+use Rattle.om_code.specs.declared.instruction.Task.TheVariants as taskings
 use Rattle.om_code.specs.declared.raw.GlobalVariable.{GlobalVariable}
 use Rattle.om_code.specs.declared.raw.Raw.{Raw}
 use Rattle.om_code.specs.declared.frame.Cell.TheVariants as cell
@@ -42,7 +45,7 @@ use Rattle.om_team_serial.specs.Rows.{Asked, decided}
 use Rattle.om_team_serial.specs.Objects.{homes_for}
 use Rattle.om_task.specs.Rows.{start_row}
 use Rattle.om_team_serial.specs.Begins.{first_frame, new_context}
-use Rattle.om_team.specs.Sites.{Site, site, body_of}
+use Rattle.om_team_serial.specs.Sites.{Site, site, body_of}
 use Rattle.om_task.specs.Table.{row_of}
 
 -- the initial task, whose frame is at the first instruction of `main`
@@ -79,12 +82,12 @@ start_of program workers q = default_of q
 
 -- the status of a task that is left for another one: OpenMP 5.2, 12.9. `None` where a worker is at no scheduling point
 abbrev pub leaving : Option Instr → Option statuses.TaskStatus
-leaving (Some (i.Depart barrier)) = Some status.Switch
-leaving (Some i.Leave) = Some status.Switch
-leaving (Some i.WaitEnd) = Some status.Switch
-leaving (Some i.GroupEnd) = Some status.Switch
-leaving (Some (i.Finish has_value)) = Some status.Switch
-leaving (Some i.Yield) = Some status.Yield
+leaving (Some (i.Team (teams.Depart barrier))) = Some status.Switch
+leaving (Some (i.Team teams.Leave)) = Some status.Switch
+leaving (Some (i.Task taskings.WaitEnd)) = Some status.Switch
+leaving (Some (i.Task taskings.GroupEnd)) = Some status.Switch
+leaving (Some (i.Function (calls.Finish has_value))) = Some status.Switch
+leaving (Some (i.Task taskings.Yield)) = Some status.Yield
 leaving _ = None
 
 -- whether a worker of this control is at a scheduling point
@@ -95,8 +98,8 @@ is_at_scheduling_point program _ = false
 
 -- whether an instruction departs from a barrier
 abbrev pub departs : Option Instr → Bool
-departs (Some (i.Depart barrier)) = true
-departs (Some i.Leave) = true
+departs (Some (i.Team (teams.Depart barrier))) = true
+departs (Some (i.Team teams.Leave)) = true
 departs _ = false
 
 -- OpenMP 5.2, 12.9: a task may be started on a stack where it descends from each task there that isn't at a barrier

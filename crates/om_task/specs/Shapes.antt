@@ -29,10 +29,11 @@ IsControl (value.Control control) trailed = Unit {0}
 IsControl v true = ⊥
 IsControl v false = Unit {0}
 
--- at a write of a control the update puts a control
+-- at a write of a control the update puts a control, and none is added to
 abbrev pub IsShapedAt : Mode → Update → Bool → Type 0
 IsShapedAt mode.Write (Put v) trailed = IsControl v trailed
 IsShapedAt mode.Write u true = ⊥
+IsShapedAt mode.Add u true = ⊥
 IsShapedAt _ _ _ = Unit {0}
 
 -- so it is along a footprint
@@ -62,7 +63,7 @@ abbrev pub PutCells : List Access → List Update → Type 0
 PutCells (a ∷ rest) (u ∷ us) = PutsCell u (is_cell a.object) × PutCells rest us
 PutCells _ _ = Unit {0}
 
--- rules whose steps write nothing but controls at controls, and put nothing but cells at cells
+-- rules whose steps write nothing but controls at controls, add to none, and put nothing but cells at cells
 pub record IsShapely (r : Rules) : Type 0 where
   pub shaped : (l : Label) (control : Val) (read : List Val) (us : List Update) → r.outcome l (control ∷ read)
       ≡ Updates us → AreShaped (control_access l ∷ r.further l control) us

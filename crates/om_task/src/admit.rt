@@ -6,7 +6,7 @@ ghost use Rattle.om_memory.specs.Plain.{plain_context, plain_held, plain_stack};
 ghost use Rattle.om_task.specs.Contexts.{instruction_on, admits_stack, held_at};
 ghost use Rattle.om_task.specs.Rules.{leaving, departs, admits_on, admits_all};
 
-use om_code::{Instr, Program};
+use om_code::{Function, Instr, Program, Task, Team};
 use om_events::TaskStatus;
 use om_foot::{Name, is_descendant};
 use om_memory::{Context, Stack, Tape};
@@ -24,9 +24,10 @@ pub(crate) fn leaving(instruction: Option<Instr>) -> Option<TaskStatus>
     ensures { result ≡ leaving instruction }
 {
     match instruction? {
-        Instr::Depart(_) | Instr::Leave | Instr::WaitEnd => Some(TaskStatus::Switch),
-        Instr::GroupEnd | Instr::Finish { .. } => Some(TaskStatus::Switch),
-        Instr::Yield => Some(TaskStatus::Yield),
+        Instr::Team(Team::Depart(_) | Team::Leave)
+        | Instr::Task(Task::WaitEnd | Task::GroupEnd)
+        | Instr::Function(Function::Finish { .. }) => Some(TaskStatus::Switch),
+        Instr::Task(Task::Yield) => Some(TaskStatus::Yield),
         _ => None,
     }
 }
@@ -38,7 +39,7 @@ fn departs(instruction: Option<Instr>) -> bool
     let Some(instruction) = instruction else {
         return false;
     };
-    matches!(instruction, Instr::Depart(_) | Instr::Leave)
+    matches!(instruction, Instr::Team(Team::Depart(_) | Team::Leave))
 }
 
 // Whether the task of a name descends from another one.

@@ -20,13 +20,12 @@ use crate::table::answer;
 use crate::task_start::{Starting, start};
 use om_code::Program;
 use om_foot::{Access, Names};
-use om_memory::{Control, Memory, Stack};
+use om_memory::{Control, Memory};
 use om_seq::{AllocResult, Seq};
 use om_state::{Blocked, Change, Choice, Edit, Footprint, Label, Puts};
-use om_team::Doing;
 use om_team::answers::footprint;
 use om_team::table::instruction_of;
-use om_team_serial::{Answer, Row};
+use om_team_serial::{Answer, Here, Row};
 use std::alloc::Global;
 
 /// A choice of one of so many workers. A choice is large, so it stays where it is.
@@ -43,50 +42,33 @@ pub struct Planning<'a> {
 }
 
 // The answer of the instruction at which a stack stands.
-fn next_answer(
-    alloc: Global,
-    program: &Program,
-    store: &Memory,
-    stack: &Stack,
-    planning: &Planning<'_>,
-) -> AllocResult<Answer>
-    requires { IsWithin (2 ^ 63) (plain_stack stack.now).top }
-    ensures { AnswersAt result
-        (next_asked program.now planning.now.workers planning.now.worker stack.now) store.now }
+fn next_answer(here: &Here<'_>) -> AllocResult<Answer>
+    requires { IsWithin (2 ^ 63) (plain_stack here.now.stack.now).top }
+    ensures { AnswersAt result (next_asked here.now.program.now here.now.workers here.now.worker
+        here.now.stack.now) here.now.store.now }
 {
-    let Some(instruction) = instruction_of(program, stack) else {
-        return Ok(Answer::decided(alloc, Row::Lacks));
-    };
-    let doing = Doing {
-        worker: planning.worker,
-        workers: planning.workers,
-        instruction,
-    };
-    answer(alloc, store, program, stack, doing)
+    match instruction_of(here.program, here.stack) {
+        Some(instruction) => answer(here, instruction),
+        None => Ok(Answer::decided(here.alloc, Row::Lacks)),
+    }
 }
 
 // The answer of a choice on a stack.
-fn choice_answer(
-    alloc: Global,
-    program: &Program,
-    store: &Memory,
-    stack: &Stack,
-    planning: &Planning<'_>,
-) -> AllocResult<Answer>
-    requires { IsWithin (2 ^ 63) (plain_stack stack.now).top }
-    ensures { AnswersAt result
-        (choice_asked program.now planning.now.workers
-        (label_at planning.now.worker planning.now.choice.now) stack.now) store.now }
+fn choice_answer(here: &Here<'_>, choice: &Choice) -> AllocResult<Answer>
+    requires { IsWithin (2 ^ 63) (plain_stack here.now.stack.now).top }
+    ensures { AnswersAt result (choice_asked here.now.program.now here.now.workers
+        (label_at here.now.worker choice.now) here.now.stack.now) here.now.store.now }
 {
-    match planning.choice {
-        Choice::Next => next_answer(alloc, program, store, stack, planning),
+    match choice {
+        Choice::Next => next_answer(here),
         Choice::Start(name) => {
+            let context = &here.stack.top;
             let starting = Starting {
-                worker: planning.worker,
-                status: leaving(instruction(program, &stack.top)),
-                admits: admits(program, name, stack),
+                worker: here.worker,
+                status: leaving(instruction(here.program, context)),
+                admits: admits(here.program, name, here.stack),
             };
-            start(alloc, store, &starting, name, &stack.top)
+            start(here.alloc, here.store, &starting, name, context)
         }
     }
 }
@@ -105,7 +87,17 @@ fn control_answer(
         (label_at planning.now.worker planning.now.choice.now) store.now control.now) }
 {
     match control {
-        Control::Running(stack) => choice_answer(alloc, program, store, stack, planning),
+        Control::Running(stack) => {
+            let here = &Here {
+                alloc,
+                store,
+                program,
+                stack,
+                worker: planning.worker,
+                workers: planning.workers,
+            };
+            choice_answer(here, planning.choice)
+        }
         Control::Idle => Ok(Answer::decided(alloc, Row::Blocked(Blocked::Idle))),
         Control::Faulted(_, _) => Ok(Answer::decided(alloc, Row::Lacks)),
         Control::Ended(_) => Ok(Answer::decided(alloc, Row::Lacks)),

@@ -6,7 +6,7 @@ ghost use Rattle.om_events.specs.declared.kind.Thread.TheVariants as thread;
 ghost use Rattle.om_events.specs.declared.event.Record.TheVariants as event_record;
 ghost use Rattle.om_state.specs.declared.value.Val.TheVariants as value;
 ghost use Rattle.om_memory.specs.Memories.{state_of};
-ghost use Rattle.om_team.specs.Sites.{body_of};
+ghost use Rattle.om_team_serial.specs.Sites.{body_of};
 ghost use Rattle.om_team_serial.specs.Answers.{Gives};
 ghost use Rattle.om_task.specs.Contexts.{initial_context, initial_begun};
 ghost use Rattle.om_task.specs.Rules.{first_context, first_control, first_records, initial_in, start_of};

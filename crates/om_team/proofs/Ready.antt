@@ -11,7 +11,7 @@ use Rattle.om_code.specs.Places.{instruction_at, slots_of}
 use Rattle.om_code.specs.Validity.{IsValid, IsValidBody, NamesKnown}
 use Rattle.om_state.specs.declared.control.Stack.{Stack}
 use Rattle.om_team.specs.Counters.{IsWithin}
-use Rattle.om_team.specs.Ready.{IsReady}
+use Rattle.om_team_serial.specs.Ready.{IsReady}
 
 -- what holds of every element holds of one that is found
 all_found : {X : Type 0} (P : X → Type 0) (xs : List X) (k : ℕ) (x : X) → All P xs → slice_get xs k ≡ Some x → P x

@@ -1,6 +1,6 @@
 -- What a choice of a worker asks by its control: what it names, and what comes of the values there. There is none
 -- where the row is one of tasks.
-use Rattle.std.specs.Prelude.{ℕ, if◌then◌else◌, Option, None, Some, option_map, List, ◌∷◌}
+use Rattle.std.specs.Prelude.{ℕ, Option, None, Some, option_map, List, ◌∷◌}
 use Rattle.om_foot.specs.declared.footprint.Access.{Access}
 use Rattle.om_foot.specs.declared.object.Obj.TheVariants as obj
 use Rattle.om_code.specs.declared.instruction.Instr.{Instr}
@@ -19,12 +19,12 @@ use Rattle.om_team_serial.specs.declared.row.Answer.{Answer}
 use Rattle.om_team_serial.specs.declared.row.Row.{Row}
 use Rattle.om_team_serial.specs.declared.row.Row.TheVariants.{Blocked, Lacks}
 use Rattle.om_team_serial.specs.Rows.{Asked, answered, decided}
-use Rattle.om_team.specs.Sites.{Site, site}
-use Rattle.om_team.specs.Table.{is_of_tasks, row_of}
+use Rattle.om_team_serial.specs.Sites.{Site, site}
+use Rattle.om_team.specs.Table.{row_of}
 
 abbrev pub next_asked : Site → Option Instr → Option Asked
 next_asked s None = Some (decided Lacks)
-next_asked s (Some instr) = if is_of_tasks instr then None else Some (row_of s instr)
+next_asked s (Some instr) = row_of s instr
 
 abbrev pub choice_asked : Site → Choice → Option Asked
 choice_asked s Next = next_asked s (instruction_at s.program s.stack.top.frame.body s.stack.top.frame.next)

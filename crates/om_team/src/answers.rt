@@ -8,16 +8,15 @@ ghost use Rattle.om_memory.specs.Memories.{state_of};
 ghost use Rattle.om_team_serial.specs.Answers.{Gives};
 ghost use Rattle.om_team.specs.Asked.{next_asked, choice_asked, asked_in, answer_in, names_in, row_in, effect_at};
 ghost use Rattle.om_team.specs.Counters.{IsWithin, ControlWithin, StateWithin};
-ghost use Rattle.om_team.specs.Sites.{site};
+ghost use Rattle.om_team_serial.specs.Sites.{site, site_of};
 
-use crate::doing::Doing;
-use crate::table::{answer, instruction_of, is_of_tasks};
+use crate::table::{answer, instruction_of};
 use om_code::Program;
 use om_foot::{Access, Mode, Obj};
 use om_memory::{Control, Memory, Stack};
 use om_seq::{AllocResult, Seq};
 use om_state::{Blocked, Choice, Label};
-use om_team_serial::{Answer, Row};
+use om_team_serial::{Answer, Here, Row};
 use std::alloc::Global;
 
 // A choice of one of so many workers.
@@ -46,31 +45,16 @@ pub fn footprint(worker: u8, names: Seq<Access>) -> AllocResult<Seq<Access>>
 }
 
 // The answer of the instruction at which a stack stands.
-fn next_answer(
-    alloc: Global,
-    program: &Program,
-    store: &Memory,
-    stack: &Stack,
-    planning: &Planning<'_>,
-) -> AllocResult<Option<Answer>>
-    requires { IsWithin (2 ^ 63) (plain_stack stack.now).top }
-    ensures { Gives result (answer_in (state_of store.now) (next_asked (site program.now
-        planning.now.workers planning.now.label.now.worker (plain_stack stack.now))
-        (instruction_at program.now (plain_stack stack.now).top.frame.body (plain_stack
-        stack.now).top.frame.next))) }
+fn next_answer(here: &Here<'_>) -> AllocResult<Option<Answer>>
+    requires { IsWithin (2 ^ 63) (plain_stack here.now.stack.now).top }
+    ensures { Gives result (answer_in (state_of here.now.store.now) (next_asked (site_of here.now)
+        (instruction_at here.now.program.now (plain_stack here.now.stack.now).top.frame.body
+        (plain_stack here.now.stack.now).top.frame.next))) }
 {
-    let Some(instruction) = instruction_of(program, stack) else {
-        return Ok(Some(Answer::decided(alloc, Row::Lacks)));
+    let Some(instruction) = instruction_of(here.program, here.stack) else {
+        return Ok(Some(Answer::decided(here.alloc, Row::Lacks)));
     };
-    if is_of_tasks(instruction) {
-        return Ok(None);
-    }
-    let doing = Doing {
-        worker: planning.label.worker,
-        workers: planning.workers,
-        instruction,
-    };
-    Ok(Some(answer(alloc, store, program, stack, doing)?))
+    answer(here, instruction)
 }
 
 // The answer of a choice on a stack.
@@ -87,7 +71,14 @@ fn choice_answer(
         planning.now.label.now.choice)) }
 {
     match &planning.label.choice {
-        Choice::Next => next_answer(alloc, program, store, stack, planning),
+        Choice::Next => next_answer(&Here {
+            alloc,
+            store,
+            program,
+            stack,
+            worker: planning.label.worker,
+            workers: planning.workers,
+        }),
         Choice::Start(_) => Ok(None),
     }
 }

@@ -3,3 +3,8 @@ pub mod Rows
 pub mod Answers
 pub mod Objects
 pub mod Begins
+pub mod Ends
+pub mod Sites
+pub mod Ready
+pub mod AtStates
+pub mod Table

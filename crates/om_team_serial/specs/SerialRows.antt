@@ -3,7 +3,7 @@ use Rattle.std.specs.Prelude.{ℕ, ◌+◌, ℤ, pos, nat_le, if◌then◌else�
 use Rattle.std.specs.Prelude.{List, [], ◌∷◌, ◌++◌, length}
 use Rattle.om_foot.specs.declared.object.Obj.TheVariants as obj
 use Rattle.om_foot.specs.declared.footprint.Access.{Access}
-use Rattle.om_code.specs.declared.instruction.Instr.{Instr}
+use Rattle.om_code.specs.declared.instruction.Serial.{Serial}
 use Rattle.om_code.specs.declared.instruction.Place.{Place}
 use Rattle.om_code.specs.declared.instruction.Place.TheVariants as place
 use Rattle.om_code.specs.declared.instruction.Reduction.{Reduction}
@@ -16,10 +16,10 @@ use Rattle.om_code.specs.declared.frame.Fault.{Fault}
 use Rattle.om_code.specs.declared.frame.Fault.TheVariants as fault
 use Rattle.om_code.specs.declared.frame.Operand.{Operand}
 use Rattle.om_code.specs.declared.frame.Operand.TheVariants as operand
-use Rattle.om_code.specs.declared.serial.Touch.{Touch}
-use Rattle.om_code.specs.declared.serial.Touch.TheVariants as touch
-use Rattle.om_code.specs.declared.serial.Turn.{Turn}
-use Rattle.om_code.specs.declared.serial.Turn.TheVariants as turn
+use Rattle.om_code.specs.Frames.{Touch}
+use Rattle.om_code.specs.Frames as touch
+use Rattle.om_code.specs.declared.act.Turn.{Turn}
+use Rattle.om_code.specs.declared.act.Turn.TheVariants as turn
 use Rattle.om_code.specs.Frames.{Act, act, cells_in, print_bytes}
 use Rattle.om_code.specs.Places.{slots_of}
 use Rattle.om_code.specs.Arithmetic.{combine}
@@ -101,7 +101,7 @@ abbrev pub act_row : Raw → Context → Act → Asked
 act_row raw c a = touch_row raw c a.turn a.touch
 
 -- the row of an instruction of the frame machine that goes on in its frame
-abbrev pub serial_row : Raw → Context → Instr → Asked
+abbrev pub serial_row : Raw → Context → Serial → Asked
 serial_row raw c instr = act_row raw c (act raw (slots_in raw c) instr c.frame.operands)
 
 -- OpenMP 5.2, 18.2: the thread number, and the size of the team

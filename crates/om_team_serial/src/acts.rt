@@ -2,26 +2,28 @@
 
 ghost use Rattle.std.specs.Prelude.{◌≡◌, ◌++◌, ◌<◌, ◌+◌, ◌^◌, ◌∷◌, [], Some, slice_get, unwrap_or, option_map};
 ghost use Rattle.om_foot.specs.declared.object.Obj.TheVariants as obj;
-ghost use Rattle.om_code.specs.Frames.{act};
+ghost use Rattle.om_code.specs.declared.instruction.Instr.TheVariants as instructions;
+ghost use Rattle.om_code.specs.Frames.{act, meaning, IsThere};
 ghost use Rattle.om_code.specs.Places.{slots_of};
 ghost use Rattle.om_code.specs.Validity.{NamesKnown};
 ghost use Rattle.om_memory.specs.Plain.{plain_context};
 ghost use Rattle.om_memory.specs.Memories.{state_of};
 ghost use Rattle.om_state.specs.Values.{cell_in};
 ghost use Rattle.om_team_serial.specs.Objects.{read, write, object_of};
-ghost use Rattle.om_team_serial.specs.SerialRows.{row_of, put_of, unsets, cleared, serial_row, slots_in};
+ghost use Rattle.om_team_serial.specs.SerialRows.{row_of, put_of, unsets, cleared, act_row, serial_row, slots_in};
 ghost use Rattle.om_team_serial.specs.Answers.{Gives, AnswersAt};
 
 use crate::names::{name_one, name_place, name_slot, operands_of};
 use crate::parts::one_put;
 use crate::updates::put_each;
 use crate::{Answer, Row};
+use om_code::act::{Act, Turn};
 use om_code::frame::Cell;
 use om_code::instruction::Place;
 use om_code::print::print_bytes;
 use om_code::raw::Slot;
-use om_code::serial::{Touch, Turn, touch_of, turn_of};
-use om_code::{Instr, Raw};
+use om_code::serial::act_of;
+use om_code::{Raw, Serial};
 use om_foot::{Access, Mode, Names, Obj};
 use om_memory::{Context, Memory};
 use om_seq::{AllocResult, Seq};
@@ -89,15 +91,12 @@ fn unset(alloc: Global, names: &Names) -> AllocResult<Puts>
     Ok(updates)
 }
 
-// An instruction of the frame machine where it is met: its program, the slots of its body, the context
-// that runs it, and what the objects hold.
+// What an instruction does, where it is met: the context that runs it, and what the objects hold.
 #[derive(Clone, Copy)]
 struct Met<'a> {
-    raw: &'a Raw,
-    slots: &'a [Slot],
     store: &'a Memory,
     context: &'a Context,
-    instr: Instr,
+    act: Act,
 }
 
 // The answer where one cell of a variable is read, or written. The object is made where it is named,
@@ -110,12 +109,10 @@ fn at_cell(
     index: u32,
     mode: Mode,
 ) -> AllocResult<Answer>
-    requires names { NamesKnown met.now.raw.now met.now.slots.now met.now.instr }
-    requires next { (plain_context met.now.context.now).frame.next + 1 < 2 ^ 32 }
+    requires { (plain_context met.now.context.now).frame.next + 1 < 2 ^ 32 }
     ensures { Gives result (record {
       names = record { object = object_of (plain_context met.now.context.now) place index; mode = mode } ∷ [];
-      row = row_of ((plain_context met.now.context.now).frame.next + 1) []
-          ((act met.now.raw.now met.now.slots.now met.now.instr (plain_context met.now.context.now).frame.operands).turn
+      row = row_of ((plain_context met.now.context.now).frame.next + 1) [] ((meaning met.now.act).turn
           (cell_in (state_of met.now.store.now (object_of (plain_context met.now.context.now) place index))));
     }) }
 {
@@ -123,8 +120,7 @@ fn at_cell(
     let mut names = Seq::of(Vec::with_capacity(alloc, 1)?);
     name_place(&mut names, met.context, place, index, mode)?;
     let cell = met.store.cell(alloc, &names.as_slice()[0].object);
-    let operands = &operands_of(met.context);
-    let turn = turn_of(met.raw, met.slots, met.instr, operands, cell);
+    let turn = met.act.turn(cell);
     let row = row_of(alloc, met.context.frame.next, Puts::new(alloc), turn)?;
     Ok(Answer {
         names: Names::of(alloc, names),
@@ -167,6 +163,32 @@ fn printing(alloc: Global, next: u32, bytes: Seq<u8>, turn: Turn) -> AllocResult
     Ok(Answer { names, row })
 }
 
+// The answer where an instruction does this.
+fn answer(alloc: Global, raw: &Raw, met: &Met<'_>) -> AllocResult<Answer>
+    requires there { IsThere raw.now (slots_in raw.now (plain_context met.now.context.now))
+        (plain_context met.now.context.now).frame.operands (meaning met.now.act).touch }
+    requires next { (plain_context met.now.context.now).frame.next + 1 < 2 ^ 32 }
+    ensures { AnswersAt result (act_row raw.now (plain_context met.now.context.now)
+        (meaning met.now.act)) met.now.store.now }
+{
+    let context = met.context;
+    let next = context.frame.next;
+    match met.act {
+        Act::Turns(turn) => {
+            let row = row_of(alloc, next, Puts::new(alloc), turn)?;
+            Ok(Answer::decided(alloc, row))
+        }
+        Act::Loads { place, index, .. } => at_cell(alloc, met, place, index, Mode::Read),
+        Act::Stores { place, index, .. } => at_cell(alloc, met, place, index, Mode::Write),
+        Act::Updates { place, index, .. } => at_cell(alloc, met, place, index, Mode::Write),
+        Act::Clears(slot) => clearing(alloc, raw, context, slot, met.act.turn(Cell::Unset)),
+        Act::Prints { text, values } => {
+            let bytes = print_bytes(alloc, raw, text, values, &operands_of(context))?;
+            printing(alloc, next, Seq::of(bytes), met.act.turn(Cell::Unset))
+        }
+    }
+}
+
 /// The answer to an instruction of the frame machine that goes on in its frame: what it names, and
 /// what comes of the values there. Its only error is out of memory.
 pub fn serial(
@@ -174,40 +196,20 @@ pub fn serial(
     raw: &Raw,
     store: &Memory,
     context: &Context,
-    instr: Instr,
+    instr: Serial,
 ) -> AllocResult<Answer>
-    requires names { NamesKnown raw.now (slots_in raw.now (plain_context context.now)) instr }
+    requires names { NamesKnown raw.now (slots_in raw.now (plain_context context.now)) (instructions.Serial instr) }
     requires next { (plain_context context.now).frame.next + 1 < 2 ^ 32 }
     ensures { AnswersAt result (serial_row raw.now (plain_context context.now) instr) store.now }
 {
     let slots = slots_of(raw, context.frame.body);
-    let operands = &operands_of(context);
-    let next = context.frame.next;
+    let act = act_of(raw, slots, instr, &operands_of(context));
     let met = &Met {
-        raw,
-        slots,
         store,
         context,
-        instr,
+        act,
     };
-    match touch_of(raw, slots, instr, operands) {
-        Touch::Nothing => {
-            let turn = turn_of(raw, slots, instr, operands, Cell::Unset);
-            let row = row_of(alloc, next, Puts::new(alloc), turn)?;
-            Ok(Answer::decided(alloc, row))
-        }
-        Touch::Reads { place, index } => at_cell(alloc, met, place, index, Mode::Read),
-        Touch::Writes { place, index } => at_cell(alloc, met, place, index, Mode::Write),
-        Touch::Clears(slot) => {
-            let turn = turn_of(raw, slots, instr, operands, Cell::Unset);
-            clearing(alloc, raw, context, slot, turn)
-        }
-        Touch::Prints { text, values } => {
-            let bytes = Seq::of(print_bytes(alloc, raw, text, values, operands)?);
-            let turn = turn_of(raw, slots, instr, operands, Cell::Unset);
-            printing(alloc, next, bytes, turn)
-        }
-    }
+    answer(alloc, raw, met)
 }
 
 /// That an object is read.

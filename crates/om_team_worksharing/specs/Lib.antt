@@ -3,3 +3,4 @@ pub mod Chunks
 pub mod Rows
 pub mod Iterations
 pub mod RowParts
+pub mod Table

@@ -56,7 +56,8 @@ shaped_at mode.Write (update.Append t) false h = tt
 shaped_at mode.Write (update.Cut n) true h = absurd h
 shaped_at mode.Write (update.Cut n) false h = tt
 shaped_at mode.Read u trailed h = tt
-shaped_at mode.Add u trailed h = tt
+shaped_at mode.Add u true h = absurd h
+shaped_at mode.Add u false h = tt
 
 all_shaped : (accesses : List Access) (us : List Update) → rows.AreShaped accesses us → AreShaped accesses us
 all_shaped [] us h = tt

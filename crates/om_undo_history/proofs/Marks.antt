@@ -17,7 +17,7 @@ mark_made : (t : Bool) (m : Mode) (u : Update) (old : Val) → IsShapedAt m u t
     → IfWritten t m (cond (is_put m u t) update.Keep (undo_of m u old) ≡ update.Keep)
 mark_made false m u old h = tt
 mark_made true mode.Read u old h = tt
-mark_made true mode.Add u old h = tt
+mark_made true mode.Add u old h = absurd h
 mark_made true mode.Write (update.Put v) old h = refl
 mark_made true mode.Write update.Keep old h = absurd h
 mark_made true mode.Write (update.Add d) old h = absurd h
@@ -45,7 +45,7 @@ mark_past : (t : Bool) (m : Mode) (u w : Update) (v : Val) (vs : List Val) → I
     → IfWritten t m (0 < length vs)
 mark_past false m u w v vs shaped marked e = tt
 mark_past true mode.Read u w v vs shaped marked e = tt
-mark_past true mode.Add u w v vs shaped marked e = tt
+mark_past true mode.Add u w v vs shaped marked e = absurd shaped
 mark_past true mode.Write u w v vs shaped marked e = past_kept w v vs shaped
     (subst (λ x. cond (is_mark mode.Write x true) (first_put x vs) x ≡ undo_of mode.Write w v) marked e)
 
@@ -71,3 +71,17 @@ marks_have_pasts (a ∷ rest) (w ∷ us) (u ∷ small) s ps shaped marked e = (
   mark_past (is_trailed a.object) a.mode u w (s a.object) (popped_all rest small ps a.object) shaped.0 marked.0 (same_head _ _ _ _ e),
   marks_have_pasts rest us small (state_after a w s) ps shaped.1 marked.1 (same_rest _ _ _ _ e),
 )
+
+-- what is added to is no control: by the shape of an update
+pub added_by_shape : (m : Mode) (u : Update) (t : Bool) → mode.Add ≡ m → IsShapedAt m u t → t ≡ false
+added_by_shape m u false e h = refl
+added_by_shape mode.Add u true e h = absurd h
+added_by_shape mode.Read u true e h = cc
+added_by_shape mode.Write u true e h = cc
+
+-- and by what is asked of a mark
+pub added_by_mark : (m : Mode) (P : Type 0) (t : Bool) → mode.Add ≡ m → IfWritten t m P → t ≡ false
+added_by_mark m P false e h = refl
+added_by_mark mode.Add P true e h = absurd h
+added_by_mark mode.Read P true e h = cc
+added_by_mark mode.Write P true e h = cc

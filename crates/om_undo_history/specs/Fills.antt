@@ -101,11 +101,13 @@ noted_all _ _ s ps = ps
 
 -- what is asked of small records and trails
 
+-- something is so, if an object is a control, which is written; it is not added to
 abbrev pub IfWritten : Bool → Mode → Type 0 → Type 0
 IfWritten true mode.Write P = P
+IfWritten true mode.Add P = ⊥
 IfWritten _ _ P = Unit {0}
 
--- something is so, if an access writes a control
+-- something is so, if an access writes a control; none adds to one
 abbrev pub IfControl : Access → Type 0 → Type 0
 IfControl a P = IfWritten (is_trailed a.object) a.mode P
 

@@ -18,10 +18,11 @@ IsControl (value.Control c) trailed = Unit {0}
 IsControl v true = ⊥
 IsControl v false = Unit {0}
 
--- at a `Write` of a control an update puts a control
+-- at a `Write` of a control an update puts a control, and there is no `Add` of one
 abbrev pub IsShapedAt : Mode → Update → Bool → Type 0
 IsShapedAt mode.Write (update.Put v) trailed = IsControl v trailed
 IsShapedAt mode.Write u true = ⊥
+IsShapedAt mode.Add u true = ⊥
 IsShapedAt _ _ _ = Unit {0}
 
 -- and so do all updates of a footprint
@@ -29,7 +30,7 @@ abbrev pub AreShaped : List Access → List Update → Type 0
 AreShaped (a ∷ rest) (u ∷ us) = IsShapedAt a.mode u (is_trailed a.object) × AreShaped rest us
 AreShaped _ _ = Unit {0}
 
--- rules whose steps put a control at each control that they write
+-- rules whose steps put a control at each control that they write, and add to none
 pub record IsShaped (r : Rules) : Type 0 where
   pub steps : (l : Label) (control : Val) (read : List Val) (us : List Update)
       → r.outcome l (control ∷ read) ≡ Updates us → AreShaped (control_access l ∷ r.further l control) us

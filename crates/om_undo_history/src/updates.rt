@@ -99,8 +99,9 @@ fn make(
     }
 }
 
-// Makes an update at an `Add`, and answers it: it takes itself back.
+// Makes an update at an `Add` of an object that is no control, and answers it: it takes itself back.
 fn make_addition(store: &mut Memory, object: &Obj, update: Update) -> Update
+    requires no_control { is_trailed object.now ≡ false }
     requires kept { is_kept store.old object.now ≡ true }
     requires fits { FitsAt Mode.Add update (state_of store.old object.now) }
     ensures same { result ≡ update }
@@ -117,8 +118,9 @@ fn make_addition(store: &mut Memory, object: &Obj, update: Update) -> Update
     }
 }
 
-// Takes an update at an `Add` back.
+// Takes an update at an `Add` of an object that is no control back.
 fn take_addition_back(store: &mut Memory, object: &Obj, update: Update)
+    requires no_control { is_trailed object.now ≡ false }
     requires kept { is_kept store.old object.now ≡ true }
     requires fits { FitsAtBack Mode.Add update (state_of store.old object.now) }
     ensures state { TakesBackAt (add_at object.now) update store.old store.new }

@@ -1,5 +1,6 @@
 use Rattle.std.proofs.Common.{ap, map}
 use Rattle.om_code.specs.declared.instruction.Instr.TheVariants as i
+use Rattle.om_code.specs.declared.instruction.Region.TheVariants as regionals
 use Rattle.om_lower_emit.specs.Emits.{names_at}
 use Rattle.om_lower_emit.proofs.Leaves.{emits_one, emits_put_then, emits_then_one, emits_two}
 use Rattle.om_lower_emit.specs.Going.{begins, puts_is}
@@ -20,8 +21,8 @@ returns-in_ok-put_jump-in-Masked-clause-code c = rw c.in-Masked.is (begins _ _ _
 pub returns-in_ok-put-in-Critical-2-clause-code : goal.returns-in_ok-put-in-Critical-2-clause-code
 returns-in_ok-put-in-Critical-2-clause-code c = rw c.in-Critical.is (begins _ _ _ _ _ c.in_ok-label.ensures
     (emits_two (names_at c.args.here.now) _ _ _ _ _ _
-    (puts_is _ _ _ _ _ (ap i.AskCritical c.lock_number-lock.ensures) c.in_ok-put-in-Critical.ensures)
-    (puts_is _ _ _ _ _ (ap i.EnterCritical c.lock_number-lock.ensures) c.in_ok-put-in-Critical-2.ensures)))
+    (puts_is _ _ _ _ _ (ap (λ x. i.Region (regionals.AskCritical x)) c.lock_number-lock.ensures) c.in_ok-put-in-Critical.ensures)
+    (puts_is _ _ _ _ _ (ap (λ x. i.Region (regionals.EnterCritical x)) c.lock_number-lock.ensures) c.in_ok-put-in-Critical-2.ensures)))
 
 pub returns-in_ok-put-in-Taskgroup-clause-code : goal.returns-in_ok-put-in-Taskgroup-clause-code
 returns-in_ok-put-in-Taskgroup-clause-code c = rw c.in-Taskgroup.is (begins _ _ _ _ _ c.in_ok-label.ensures

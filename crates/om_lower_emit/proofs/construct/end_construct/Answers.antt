@@ -1,5 +1,6 @@
 use Rattle.std.proofs.Common.{ap}
 use Rattle.om_code.specs.declared.instruction.Instr.TheVariants as i
+use Rattle.om_code.specs.declared.instruction.Region.TheVariants as regionals
 use Rattle.om_lower_emit.specs.Emits.{names_at}
 use Rattle.om_lower_emit.specs.Going.{puts_is}
 use Rattle.om_lower_emit.proofs.Opened.{ends_here, ends_put, ends_put_here}
@@ -15,7 +16,7 @@ returns-in_ok-put-in-Masked c = rw c.in-Masked.is (ends_put_here (names_at c.arg
 
 pub returns-in_ok-put-in-Critical : goal.returns-in_ok-put-in-Critical
 returns-in_ok-put-in-Critical c = rw c.in-Critical.is (ends_put (names_at c.args.here.now) _ _ _ _ _
-    c.requires.free (puts_is _ _ _ _ _ (ap i.LeaveCritical c.lock_number-lock.ensures) c.in_ok-put-in-Critical.ensures))
+    c.requires.free (puts_is _ _ _ _ _ (ap (λ x. i.Region (regionals.LeaveCritical x)) c.lock_number-lock.ensures) c.in_ok-put-in-Critical.ensures))
 
 pub returns-in_ok-put-in-Taskgroup : goal.returns-in_ok-put-in-Taskgroup
 returns-in_ok-put-in-Taskgroup c = rw c.in-Taskgroup.is (ends_put (names_at c.args.here.now) _ _ _ _ _

@@ -1,6 +1,8 @@
 use Rattle.std.proofs.Common.{◌≡◌, ◌≤◌, get_or, rules, ap, sym, ◌∙◌, arith, true}
 use Rattle.std.proofs.lemmas.Result.{on_ok_weaker}
 use Rattle.om_code.specs.declared.instruction.Instr.TheVariants as i
+use Rattle.om_code.specs.declared.instruction.Serial.TheVariants as serials
+use Rattle.om_code.specs.declared.instruction.Team.TheVariants as teams
 use Rattle.om_lower_emit.specs.Elements.{emits_element_assigned, target_is}
 use Rattle.om_lower_emit.specs.Emits.{listed, names_at}
 use Rattle.om_lower_emit.specs.Forms.{form}
@@ -222,7 +224,7 @@ value-returns-in-Variable t c =
     on_ok_weaker c.load.result
     (λ h. value_is names c.args.here.now.at.line (trees.Variable c.in-Variable.variable)
     (view.expression c.args.e.now) _ _ (sym is)
-    (emits_one names c.args.here.now.at.line (i.Load (place_of names.slots c.in-Variable.variable)) _ _ h))
+    (emits_one names c.args.here.now.at.line (i.Serial (serials.Load (place_of names.slots c.in-Variable.variable))) _ _ h))
     c.load.ensures
 
 pub value-returns-in-ThreadNumber : goal.value-returns-in-ThreadNumber
@@ -231,7 +233,7 @@ value-returns-in-ThreadNumber t c =
     let is = ap view.expression c.in-ThreadNumber.is ∙ view_thread_number in
     on_ok_weaker c.put-in-ThreadNumber.result
     (λ h. value_is names c.args.here.now.at.line trees.ThreadNumber (view.expression c.args.e.now) _ _ (sym is)
-    (emits_one names c.args.here.now.at.line i.ThreadNumber _ _ h))
+    (emits_one names c.args.here.now.at.line (i.Team teams.ThreadNumber) _ _ h))
     c.put-in-ThreadNumber.ensures
 
 pub value-returns-in-TeamSize : goal.value-returns-in-TeamSize
@@ -240,7 +242,7 @@ value-returns-in-TeamSize t c =
     let is = ap view.expression c.in-TeamSize.is ∙ view_team_size in
     on_ok_weaker c.put-in-TeamSize.result
     (λ h. value_is names c.args.here.now.at.line trees.TeamSize (view.expression c.args.e.now) _ _ (sym is)
-    (emits_one names c.args.here.now.at.line i.TeamSize _ _ h))
+    (emits_one names c.args.here.now.at.line (i.Team teams.TeamSize) _ _ h))
     c.put-in-TeamSize.ensures
 
 pub value-returns-in_ok-value-in-Element : goal.value-returns-in_ok-value-in-Element
