@@ -21,6 +21,7 @@ MOST_STATES = 1500
 MOST_STORED = 100000
 # Stands among stored answers, and is compared with the model alone: LAB tells nothing of it.
 TRAPPED = "some schedule comes to where no end is left"
+ROUND = "some schedules go round for ever (perhaps one in which a worker never gets its turn)"
 
 
 class Report:
@@ -83,7 +84,7 @@ def ends_differ(report, found, workers):
     told = [text.partition(";")[0] for text in report.meetings]
     wrong = difference("end", report.told, found.ends) + difference("fault", report.beside, beside(found))
     wrong += difference("pair", told, meetings)
-    wrong += [f"note: {note}" for note in report.notes]
+    wrong += difference("note", report.notes, [ROUND] * found.goes_round)
     wrong += [f"{got!r}, wanted {wanted!r}" for got, wanted in
               ((report.first, first), (report.status, 0 if is_good else 1), (report.last, sizes(found))) if got != wanted]
     return wrong
@@ -98,6 +99,7 @@ def races_differ(report, found, workers):
     count = "no two accesses meet" if number == 0 else "1 pair of accesses meets" if number == 1 else f"{number} pairs of accesses meet"
     status = 1 if number else 4 if found.faults else 0
     notes = [f"workers stop at {counted(len(found.faults), 'fault')}: what lies behind them was not looked at"] if found.faults else []
+    notes += [ROUND] * found.goes_round
     wrong = difference("pair", [text.partition(";")[0] for text in report.told], [meeting_text(meeting) for meeting in found.meetings])
     wrong += [f"{got!r}, wanted {wanted!r}" for got, wanted in
               ((report.first, f"complete: {count}, in all schedules of {counted(workers, 'worker')}"), (report.status, status),

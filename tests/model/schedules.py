@@ -13,9 +13,9 @@ UPDATES = ("ATOM", "ATOMX")
 AWAITED = {1: " at a barrier", 3: " for tasks that it made", 8: " for tasks of its taskgroup"}
 # A step that can be made: who makes it, the task that it starts or None, its line, its operation, and what it touches.
 Move = namedtuple("Move", "worker choice line operation is_atomic plan")
-# What is found in all schedules. `is_trapped` says that from some state no steps lead to an end; `states` and `steps` are how many there
-# were.
-Found = namedtuple("Found", "is_complete ends faults meetings is_trapped states steps")
+# What is found in all schedules. `is_trapped` says that from some state no steps lead to an end, `goes_round` that some steps lead from
+# a state back to it; `states` and `steps` are how many there were.
+Found = namedtuple("Found", "is_complete ends faults meetings is_trapped goes_round states steps")
 
 
 class Walker(Machine):
@@ -172,10 +172,27 @@ def explore(program, workers, most_states):
             before.setdefault(behind, []).append(row)
             if behind not in known:
                 if len(known) == most_states:
-                    return Found(False, ends, faults, meetings, False, len(known), steps)
+                    return Found(False, ends, faults, meetings, False, False, len(known), steps)
                 known.add(behind)
                 todo.append(behind)
-    return Found(True, ends, faults, meetings, len(leading_to(last, before)) < len(known), len(known), steps)
+    is_trapped = len(leading_to(last, before)) < len(known)
+    return Found(True, ends, faults, meetings, is_trapped, has_round(known, before), len(known), steps)
+
+
+def has_round(known, before):
+    """Whether steps lead from a state back to it: not all states are gone, if those without a further step are taken away again and again."""
+    left = dict.fromkeys(known, 0)
+    for rows in before.values():
+        for row in rows:
+            left[row] += 1
+    todo, gone = [row for row in known if not left[row]], 0
+    while todo:
+        gone += 1
+        for row in before.get(todo.pop(), ()):
+            left[row] -= 1
+            if not left[row]:
+                todo.append(row)
+    return gone < len(known)
 
 
 def leading_to(last, before):

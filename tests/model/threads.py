@@ -126,7 +126,8 @@ class Sharing(Teams):
         if begin >= end:
             self.next = place
             return {}
-        return self.changed(taken=work.taken + 1, current=begin, end=end)
+        # Which chunk is next is told by what this thread has taken under a static schedule, and by the team's number under a dynamic one.
+        return self.changed(taken=work.taken + (work.schedule != "dynamic"), current=begin, end=end)
 
     def do_iter(self, slot, place):
         work = self.work()
