@@ -62,6 +62,11 @@ abbrev pub end_of_session : Head → Bool → List (ℕ → Data)
 end_of_session head tells_end =
     if tells_end then named (codes "terminated") ∷ response head None ∷ [] else response head None ∷ []
 
+-- the last messages of a session whose input is none: why, and that the program is over, where it has to be told
+abbrev pub farewell : Bool → Head → List ℕ → List (ℕ → Data)
+farewell tells_end head words =
+    if tells_end then refusal head words ∷ named (codes "terminated") ∷ [] else refusal head words ∷ []
+
 -- The messages of an answer to a request: exactly one of them is a response, to this request.
 abbrev pub messages : Head → Manner → Answer → List (ℕ → Data)
 messages head manner (answers.Refused words) = refusal head (string_bytes words) ∷ []

@@ -6,7 +6,7 @@ ghost use Rattle.lab_dap_replies.specs.Bodies.{body_json};
 ghost use Rattle.lab_dap_replies.specs.Stops.{stop_json};
 ghost use Rattle.lab_dap_replies.specs.Events.{areas_json, exited_json};
 ghost use Rattle.lab_dap_answers.specs.Sent.{IsSent, response, refusal, named, telling, tiding_message, end_messages};
-ghost use Rattle.lab_dap_answers.specs.Sent.{launch_messages, move_messages, end_of_session, messages};
+ghost use Rattle.lab_dap_answers.specs.Sent.{launch_messages, move_messages, end_of_session, farewell, messages};
 
 use crate::answer::{Answer, End, Moved};
 use lab_dap_json::{Head, Outbox, SendFault};
@@ -31,8 +31,8 @@ fn send_json(alloc: Global, outbox: &mut Outbox, head: &Head, json: &Value) -> R
     Ok(())
 }
 
-// Sends an error response.
-fn send_refusal(
+/// Sends an error response. At an error a part of it may stand in the outbox.
+pub fn send_refusal(
     alloc: Global,
     outbox: &mut Outbox,
     head: &Head,
@@ -226,6 +226,40 @@ fn send_disconnected(
         send_over(alloc, outbox, head)
     } else {
         send_done(alloc, outbox, head)
+    }
+}
+
+// Sends an error response, and that the program is over.
+fn send_refusal_and_end(
+    alloc: Global,
+    outbox: &mut Outbox,
+    head: &Head,
+    words: &str,
+) -> Result<(), SendFault>
+    ensures { OnOk result (IsSent outbox.old outbox.new
+        (refusal head.now words.now ∷ named (codes "terminated") ∷ [])) }
+{
+    send_refusal(alloc, outbox, head, words)?;
+    send_named(alloc, outbox, "terminated")?;
+    Ok(())
+}
+
+/// Sends an error response that is the last one of a session, and that the program is over, where it has to be
+/// told. At an error a part of it may stand in the outbox.
+pub fn send_farewell(
+    alloc: Global,
+    outbox: &mut Outbox,
+    head: &Head,
+    words: &str,
+    tells_end: bool,
+) -> Result<(), SendFault>
+    ensures { OnOk result
+        (IsSent outbox.old outbox.new (farewell tells_end head.now words.now)) }
+{
+    if tells_end {
+        send_refusal_and_end(alloc, outbox, head, words)
+    } else {
+        send_refusal(alloc, outbox, head, words)
     }
 }
 

@@ -1,6 +1,6 @@
 -- Where a header ends, with more bytes behind it.
-use Rattle.std.proofs.Common.{◌≡◌, ℕ, ◌+◌, ◌≤◌, List, [], ◌∷◌, ◌++◌, length, take, cond, Bool, true, false, Some, nat_eq, refl, ap, ◌∙◌, arith}
-use Rattle.std.proofs.lemmas.List.{length-take, take-append-le}
+use Rattle.std.proofs.Common.{◌≡◌, ℕ, zero, suc, ◌+◌, ◌≤◌, List, [], ◌∷◌, ◌++◌, length, take, cond, Bool, true, false, Some, nat_eq, refl, ap, ◌∙◌, arith}
+use Rattle.std.proofs.lemmas.List.{length-take, take-append-le, take-take}
 use Rattle.std.specs.List.{starts_with}
 use Rattle.lab_dap_wire.specs.Fronts.{header_end, end_from}
 use lib.Pointwise.{pointwise, pointwise_long}
@@ -42,3 +42,23 @@ ends_stay at (x ∷ xs) ys n e =
         → cond b (Some at) (end_from (at + 1) xs) ≡ Some n → cond b (Some at) (end_from (at + 1) (xs ++ ys)) ≡ Some n
     by true rest f = f
     by false rest f = rest f
+
+-- a header ends where it ended, if no more is cut off than stands behind its end
+pub ends_cut : (at k : ℕ) (xs : List ℕ) (n : ℕ) → end_from at xs ≡ Some n → n + 4 ≤ at + k
+    → end_from at (take k xs) ≡ Some n
+ends_cut at k [] n e within = cc
+ends_cut at zero (x ∷ xs) n e within = let inside = ends_within at (x ∷ xs) n e in absurd (omega arith)
+ends_cut at (suc k) (x ∷ xs) n e within =
+    let inside = ends_within at (x ∷ xs) n e in
+    let begun : take 4 (take (suc k) (x ∷ xs)) ≡ take 4 (x ∷ xs) = take-take 4 (suc k) (x ∷ xs) (omega arith) in
+    ap (λ (b : Bool). cond b (Some at) (end_from (at + 1) (take k xs))) (same begun)
+    ∙ by (starts_with nat_eq (x ∷ xs) header_end) (ends_cut (at + 1) k xs n) e
+  where
+    same : take 4 (take (suc k) (x ∷ xs)) ≡ take 4 (x ∷ xs)
+        → starts_with nat_eq (x ∷ take k xs) header_end ≡ starts_with nat_eq (x ∷ xs) header_end
+    same begun = ap (λ (front : List ℕ). pointwise nat_eq header_end front) begun
+
+    by : (b : Bool) → (end_from (at + 1) xs ≡ Some n → n + 4 ≤ (at + 1) + k → end_from (at + 1) (take k xs) ≡ Some n)
+        → cond b (Some at) (end_from (at + 1) xs) ≡ Some n → cond b (Some at) (end_from (at + 1) (take k xs)) ≡ Some n
+    by true rest f = f
+    by false rest f = rest f (omega arith)

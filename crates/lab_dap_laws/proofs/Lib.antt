@@ -1,2 +1,3 @@
-mod Ends
+pub mod Ends
 mod Fronts
+pub mod Within

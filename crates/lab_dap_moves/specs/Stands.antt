@@ -2,6 +2,7 @@
 use Rattle.std.specs.Prelude.{ℕ, zero, suc, Bool, true, false, ◌&&◌, ◌||◌, nat_eq, nat_lt, Option, Some, length}
 use Rattle.om_code.specs.Places.{instruction_at, line_at}
 use Rattle.om_code.specs.declared.instruction.Instr.{Instr}
+use Rattle.om_code.specs.declared.instruction.Function.TheVariants as calls
 use Rattle.om_code.specs.declared.instruction.Instr.TheVariants as i
 use Rattle.om_code.specs.declared.raw.Raw.{Raw}
 use Rattle.om_state.specs.declared.control.Control as controls
@@ -12,7 +13,7 @@ use Rattle.om_undo.specs.Machines.{MachineView, control_at}
 use Rattle.lab_dap_moves.specs.declared.stand.Stand.{Stand}
 
 abbrev pub is_call : Option Instr → Bool
-is_call (Some (i.Call body values)) = true
+is_call (Some (i.Function (calls.Call body values))) = true
 is_call _ = false
 
 -- the instruction before a place is a call

@@ -5,7 +5,7 @@ ghost use Rattle.om_memory.specs.Memories.{plain_or_idle};
 ghost use Rattle.om_memory.specs.Plain.{plain_context, plain_frame, plain_stack};
 ghost use Rattle.lab_dap_moves.specs.Stands.{is_behind_call, is_call, is_deeper, nowhere, stand_by, stand_of, stand_on};
 
-use om_code::{Instr, Program};
+use om_code::{Function, Instr, Program};
 use om_memory::{Control, Frame, Stack};
 use om_undo::Machine;
 
@@ -26,7 +26,7 @@ pub(crate) struct Stand {
 fn is_call(instruction: Option<Instr>) -> bool
     ensures { result ≡ is_call instruction }
 {
-    matches!(instruction, Some(Instr::Call { .. }))
+    matches!(instruction, Some(Instr::Function(Function::Call { .. })))
 }
 
 fn is_behind_call(program: &Program, frame: &Frame) -> bool
