@@ -1,16 +1,18 @@
-//! A session: its state, and what is answered to a request.
+//! The program that is debugged, what an editor set, and how each request is carried out.
 
-ghost use Rattle.std.specs.Prelude.{◌≡◌, ◌≤◌, ◌<◌};
+ghost use Rattle.std.specs.Prelude.{◌≤◌, IfOk};
+ghost use Rattle.lab_dap.specs.Done.{IsRefused};
 
 use crate::breakpoints::Wanted;
 use crate::launching::Settings;
-use lab_dap_answers::{Answer, End};
-use lab_dap_debuggee::{Debuggee, NotDone, Shown};
-use lab_dap_replies::{Manner, SourceName};
-use lab_dap_requests::{Asked, Client, Command, Field, Refusal, asked_of, command_named};
-use lab_dap_session::{Phase, is_allowed, kind_of};
+use lab_dap_answers::Answer;
+use lab_dap_debuggee::{Debuggee, NotDone, Shown, Span};
+use lab_dap_replies::{Body, Manner, SourceName};
+use lab_dap_requests::Asked;
+use lab_dap_runs::Stepping;
+use lab_dap_serving::Adapter;
+use lab_dap_session::Phase;
 use om_seq::AllocResult;
-use serde_json::Value;
 use std::alloc::{AllocError, Global};
 use std::rt::Files;
 
@@ -18,59 +20,50 @@ use std::rt::Files;
 pub(crate) struct Launched {
     pub(crate) debuggee: Debuggee,
     pub(crate) settings: Settings,
-    /// Whether it may step: the editor's settings are done.
-    pub(crate) is_running: bool,
 }
 
 // By hand: its parts are dropped in one place.
 impl Drop for Launched {
     fn drop(self) {
-        let Launched {
-            debuggee,
-            settings,
-            is_running: _,
-        } = self;
+        let Launched { debuggee, settings } = self;
         drop(debuggee);
         drop(settings);
     }
 }
 
-/// A session.
-pub(crate) struct Adapter {
+/// A program that an editor debugs.
+pub(crate) struct Desk<'r, R: Files> {
+    /// What reads and writes files.
+    pub(crate) rt: &'r R,
     /// How many workers there are where a launch does not say, 1 to 32.
     pub(crate) workers: u8,
     /// The folder to which paths are relative where a launch does not say.
     pub(crate) folder: String,
-    /// What the client is; `None` until it told.
-    pub(crate) client: Option<Client>,
+    /// Whether the client knows that what was shown may hold no longer.
+    pub(crate) has_invalidated: bool,
     pub(crate) manner: Manner,
     pub(crate) wanted: Wanted,
     pub(crate) shown: Shown,
     pub(crate) launched: Option<Launched>,
-    /// Whether the program is over, so that the session alone can be ended.
-    pub(crate) is_over: bool,
     /// Whether the script was written.
     pub(crate) is_kept: bool,
-    /// Whether the session is over.
-    pub(crate) is_ended: bool,
     ghost at_least_one: { 1 ≤ workers },
     ghost at_most_32: { workers ≤ 32 },
 }
 
 // By hand: its parts are dropped in one place.
-impl Drop for Adapter {
+impl<'r, R: Files> Drop for Desk<'r, R> {
     fn drop(self) {
-        let Adapter {
+        let Desk {
+            rt: _,
             workers: _,
             folder,
-            client: _,
+            has_invalidated: _,
             manner,
             wanted,
             shown,
             launched,
-            is_over: _,
             is_kept: _,
-            is_ended: _,
         } = self;
         drop(folder);
         drop(manner);
@@ -81,12 +74,16 @@ impl Drop for Adapter {
 }
 
 /// A request that is refused, and why.
-pub(crate) fn refusal(alloc: Global, words: &str) -> AllocResult<Answer> {
+pub(crate) fn refusal(alloc: Global, words: &str) -> AllocResult<Answer>
+    ensures { IfOk result IsRefused }
+{
     Ok(Answer::Refused(String::from_str(alloc, words)?))
 }
 
 /// What is answered where a request is not done.
-pub(crate) fn refused(alloc: Global, not_done: NotDone) -> AllocResult<Answer> {
+pub(crate) fn refused(alloc: Global, not_done: NotDone) -> AllocResult<Answer>
+    ensures { IfOk result IsRefused }
+{
     match not_done {
         NotDone::Memory => Err(AllocError),
         NotDone::Because(words) => refusal(alloc, words),
@@ -94,42 +91,17 @@ pub(crate) fn refused(alloc: Global, not_done: NotDone) -> AllocResult<Answer> {
     }
 }
 
-// That an argument is wrong.
-fn wrong(alloc: Global, field: Field) -> AllocResult<Answer> {
-    let words = format!(in alloc; "the argument `{}` is missing or wrong", field.name())?;
-    Ok(Answer::Refused(words))
-}
-
-// Why a command is refused in a phase.
-fn phase_words(phase: Phase, command: Command) -> &'static str {
-    match command {
-        Command::Attach => "a program can't be attached to: launch a source",
-        Command::SetVariable | Command::SetExpression => {
-            "a value can't be set: that would be no step of the program, and no undo could take it back"
-        }
-        Command::Source => "sources have paths, and no references",
-        _ => match phase {
-            Phase::Fresh => "the first request has to be initialize",
-            Phase::Initialized => "no program is launched, or this request came a second time",
-            Phase::Launched => "the program is launched: configurationDone has to come first",
-            Phase::Running => "this request came a second time",
-            Phase::Over => "the program is over: only disconnect is left",
-        },
-    }
-}
-
-const UNKNOWN: &str = "there is no such request: see the capabilities";
-
-impl Adapter {
-    /// A session of which nothing is known yet.
-    pub(crate) fn new(alloc: Global, workers: u8, folder: String) -> Adapter
+impl<'r, R: Files> Desk<'r, R> {
+    /// A desk at which no program is launched. It takes no memory.
+    pub(crate) fn new(rt: &'r R, alloc: Global, workers: u8, folder: String) -> Desk<'r, R>
         requires least { 1 ≤ workers }
         requires most { workers ≤ 32 }
     {
-        Adapter {
+        Desk {
+            rt,
             workers,
             folder,
-            client: None,
+            has_invalidated: false,
             manner: Manner {
                 source: SourceName {
                     name: String::new(alloc),
@@ -141,22 +113,7 @@ impl Adapter {
             wanted: Wanted::new(alloc),
             shown: Shown::new(alloc),
             launched: None,
-            is_over: false,
             is_kept: false,
-            is_ended: false,
-        }
-    }
-
-    /// How far the session is.
-    pub(crate) fn phase(&self) -> Phase {
-        if self.is_over {
-            return Phase::Over;
-        }
-        match (&self.launched, self.client) {
-            (Some(launched), _) if launched.is_running => Phase::Running,
-            (Some(_), _) => Phase::Launched,
-            (None, Some(_)) => Phase::Initialized,
-            (None, None) => Phase::Fresh,
         }
     }
 
@@ -168,48 +125,106 @@ impl Adapter {
             line.saturating_add(1)
         }
     }
+}
 
-    /// What is answered to a request of this command. The only error is out of memory.
-    pub(crate) fn answer<R: Files>(
-        &mut self,
-        rt: &R,
-        alloc: Global,
-        command: &str,
-        arguments: &Value,
-    ) -> AllocResult<Answer> {
-        let Some(command) = command_named(command) else {
-            return refusal(alloc, UNKNOWN);
-        };
-        let phase = self.phase();
-        if !is_allowed(phase, kind_of(command)) {
-            return refusal(alloc, phase_words(phase, command));
-        }
-        match asked_of(alloc, command, arguments) {
-            Ok(asked) => {
-                let answer = self.carry_out(rt, alloc, &asked);
-                drop(asked);
-                answer
-            }
-            Err(Refusal::Wrong(field)) => wrong(alloc, field),
-            Err(Refusal::Memory) => Err(AllocError),
-        }
+impl<'r, R: Files> Adapter for Desk<'r, R> {
+    ghost use Rattle.lab_dap.specs.Done.{IsDone};
+
+    ghost does = { λ phase before after asked answer. IsDone phase asked answer };
+
+    ghost manner = { λ desk. desk.manner };
+
+    fn manner(&self) -> &Manner {
+        &self.manner
     }
 
-    // Carries a request out.
-    fn carry_out<R: Files>(&mut self, rt: &R, alloc: Global, asked: &Asked) -> AllocResult<Answer> {
-        let answer = match asked {
-            Asked::Initialize(client) => self.initialize(*client),
-            Asked::Launch(launch) => self.launch(rt, alloc, launch)?,
-            Asked::Restart(launch) => self.restart(rt, alloc, launch.as_ref())?,
-            Asked::Terminate => self.terminate(rt, alloc)?,
-            Asked::Disconnect => self.disconnect(rt, alloc)?,
-            _ => self.carry_out_within(alloc, asked)?,
-        };
-        if let Answer::Moved(moved) = &answer {
-            if matches!(moved.end, End::Exited { .. } | End::Terminated) {
-                self.is_over = true;
+    fn carry_out(&mut self, alloc: Global, phase: Phase, asked: &Asked) -> AllocResult<Answer> {
+        match asked {
+            Asked::Initialize(client) => Ok(self.initialize(*client)),
+            Asked::Launch(launch) => self.launch(alloc, launch),
+            Asked::SetBreakpoints { path, lines } => {
+                self.set_breakpoints(alloc, path.as_ref(), lines.as_slice())
+            }
+            Asked::SetFunctionBreakpoints { names } => self.set_functions(alloc, names.as_slice()),
+            Asked::SetDataBreakpoints { names } => self.watch(alloc, names.as_slice()),
+            Asked::DataBreakpointInfo {
+                name,
+                reference,
+                frame: _,
+            } => self.watch_info(alloc, name.as_slice(), *reference),
+            Asked::SetExceptionBreakpoints => Ok(Answer::Done(Body::Empty)),
+            Asked::BreakpointLocations { path, first, last } => {
+                self.locations(alloc, path.as_ref(), *first, last.unwrap_or(*first))
+            }
+            Asked::ConfigurationDone => self.configuration_done(alloc),
+            Asked::Threads => self.threads(alloc),
+            Asked::StackTrace {
+                thread,
+                start,
+                levels,
+            } => self.frames(alloc, *thread, (*start, *levels)),
+            Asked::Scopes { frame } => self.scopes(alloc, *frame),
+            Asked::Variables {
+                reference,
+                start,
+                count,
+            } => self.variables(alloc, *reference, (*start, *count)),
+            Asked::Next {
+                thread,
+                granularity,
+            } => self.step(alloc, *thread, (Stepping::Over, *granularity)),
+            Asked::StepIn {
+                thread,
+                granularity,
+                target,
+            } => self.begin(alloc, *thread, (*target, *granularity)),
+            Asked::StepOut {
+                thread,
+                granularity,
+            } => self.step(alloc, *thread, (Stepping::Out, *granularity)),
+            Asked::StepInTargets { frame } => self.tasks(alloc, *frame),
+            Asked::StepBack {
+                thread,
+                granularity,
+            } => self.back(alloc, *thread, *granularity),
+            Asked::ReverseContinue { thread, is_single } => {
+                self.run_back(alloc, *thread, *is_single)
+            }
+            Asked::Continue { thread, is_single } => self.go_on(alloc, *thread, *is_single),
+            Asked::Pause { thread } => self.pause(alloc, *thread),
+            Asked::GotoTargets { path: _, line } => self.jumps(alloc, *line),
+            Asked::Goto { thread, target } => self.jump(alloc, *thread, *target),
+            Asked::Evaluate {
+                expression,
+                frame,
+                is_command,
+            } => {
+                if *is_command {
+                    self.obey(alloc, phase, expression.as_slice(), *frame)
+                } else {
+                    self.evaluate(alloc, expression.as_slice(), *frame)
+                }
+            }
+            Asked::ExceptionInfo { thread } => self.fault_info(alloc, *thread),
+            Asked::Disassemble {
+                reference,
+                offset,
+                instruction_offset,
+                count,
+            } => {
+                let span = Span {
+                    offset: offset.saturating_add(*instruction_offset),
+                    count: *count,
+                };
+                self.disassemble(alloc, reference.as_slice(), span)
+            }
+            Asked::Completions { text, column } => self.complete(alloc, text.as_slice(), *column),
+            Asked::Restart(launch) => self.restart(alloc, launch.as_ref()),
+            Asked::Terminate => self.terminate(alloc),
+            Asked::Disconnect => self.disconnect(alloc, phase),
+            Asked::Attach | Asked::SetVariable | Asked::SetExpression | Asked::Source => {
+                refusal(alloc, "this request is never carried out")
             }
         }
-        Ok(answer)
     }
 }

@@ -1,10 +1,9 @@
-//! omplab dap: a server of the Debug Adapter Protocol over a program that is debugged: sessions over streams.
+//! omplab dap: a server of the Debug Adapter Protocol over a program that is debugged.
 //!
-//! - `serving` reads messages and writes the answers to each before it reads on.
-//! - `adapter` has the state of a session (`Adapter`), and says what is answered to a request: it is refused where
-//!   the phase or an argument is wrong, and else carried out.
-//! - `requests` has those that need no file: what an editor sets, looks, moves. `with_files` has launches and the
-//!   ends of a session.
+//! - `adapter` has the program and what an editor set (`Desk`), and carries requests out, each by a function of its
+//!   own. lab_dap_serving has the session over streams, and says which requests are carried out.
+//! - `setting` has what an editor sets, `looking` the looks, `moving` the moves, `with_files` launches and the ends
+//!   of a session.
 //! - `launching` makes a program of a source, `breakpoints` keeps what an editor set, `paths` says which paths are
 //!   one, and `files` reads and writes files.
 #![tactic(auto)]
@@ -13,9 +12,11 @@ mod adapter;
 mod breakpoints;
 mod files;
 mod launching;
+mod looking;
+mod moving;
 mod paths;
-mod requests;
-mod serving;
+mod server;
+mod setting;
 mod with_files;
 
-pub use serving::serve;
+pub use server::serve;

@@ -1,14 +1,22 @@
 //! Requests that read or write files: launches, and the ends of a session.
 
-use crate::adapter::{Adapter, Launched, refused};
+ghost use Rattle.std.specs.Prelude.{◌≡◌, IfOk};
+ghost use Rattle.lab_dap_serving.specs.Replies.{is_launched};
+ghost use Rattle.lab_dap_answers.specs.declared.answer.Answer.TheVariants as answers;
+ghost use Rattle.lab_dap.specs.Done.{IsLaunch, IsMove};
+
+use crate::adapter::{Desk, Launched, refusal, refused};
 use crate::breakpoints::{changes, set, set_watches};
 use crate::files::is_written;
 use crate::launching::{Settings, opened, settings_of, source_name};
-use crate::requests::first_move;
+use crate::looking::NOT_LAUNCHED;
+use crate::moving::first_move;
 use lab_dap_answers::Answer;
 use lab_dap_debuggee::{Debuggee, script};
 use lab_dap_replies::{Category, Tiding};
 use lab_dap_requests::Launch;
+use lab_dap_serving::is_launched;
+use lab_dap_session::Phase;
 use om_seq::AllocResult;
 use std::alloc::Global;
 use std::rt::Files;
@@ -16,20 +24,15 @@ use std::rt::Files;
 const NO_LINE: &str =
     "no instruction is of this line or of a later one, or there is no such function";
 
-impl Adapter {
+impl<'r, R: Files> Desk<'r, R> {
     // Takes a program that is at its start, with what the editor set. Answers how many watches it has.
     fn take(
         &mut self,
         alloc: Global,
         settings: Settings,
         debuggee: Debuggee,
-        is_running: bool,
     ) -> AllocResult<usize> {
-        let mut launched = Launched {
-            debuggee,
-            settings,
-            is_running,
-        };
+        let mut launched = Launched { debuggee, settings };
         let path = launched.settings.path.as_str();
         set(alloc, &mut launched.debuggee, &mut self.wanted, path)?;
         let watches = set_watches(alloc, &mut launched.debuggee, &self.wanted)?;
@@ -49,16 +52,13 @@ impl Adapter {
     }
 
     /// Launches a program.
-    pub(crate) fn launch<R: Files>(
-        &mut self,
-        rt: &R,
-        alloc: Global,
-        launch: &Launch,
-    ) -> AllocResult<Answer> {
+    pub(crate) fn launch(&mut self, alloc: Global, launch: &Launch) -> AllocResult<Answer>
+        ensures { IfOk result IsLaunch }
+    {
         let settings = settings_of(alloc, launch, self.folder.as_str(), self.workers)?;
-        match opened(rt, alloc, &settings) {
+        match opened(self.rt, alloc, &settings) {
             Ok(debuggee) => {
-                let _watches = self.take(alloc, settings, debuggee, false)?;
+                let _watches = self.take(alloc, settings, debuggee)?;
                 Ok(Answer::Launched(self.changes(alloc)?))
             }
             Err(not_done) => refused(alloc, not_done),
@@ -82,16 +82,13 @@ impl Adapter {
     }
 
     /// Launches a program anew: its source is read again. Where it is refused, the old one stands.
-    pub(crate) fn restart<R: Files>(
-        &mut self,
-        rt: &R,
-        alloc: Global,
-        launch: Option<&Launch>,
-    ) -> AllocResult<Answer> {
+    pub(crate) fn restart(&mut self, alloc: Global, launch: Option<&Launch>) -> AllocResult<Answer>
+        ensures { IfOk result IsMove }
+    {
         let Some(settings) = self.settings_anew(alloc, launch)? else {
-            return crate::adapter::refusal(alloc, "no program is launched yet");
+            return refusal(alloc, NOT_LAUNCHED);
         };
-        match opened(rt, alloc, &settings) {
+        match opened(self.rt, alloc, &settings) {
             Ok(debuggee) => self.begin_anew(alloc, settings, debuggee),
             Err(not_done) => refused(alloc, not_done),
         }
@@ -103,12 +100,14 @@ impl Adapter {
         alloc: Global,
         settings: Settings,
         debuggee: Debuggee,
-    ) -> AllocResult<Answer> {
-        let watches = self.take(alloc, settings, debuggee, true)?;
+    ) -> AllocResult<Answer>
+        ensures { IfOk result IsMove }
+    {
+        let watches = self.take(alloc, settings, debuggee)?;
         self.shown.printed.clear();
         self.is_kept = false;
         let Some(launched) = &mut self.launched else {
-            return crate::adapter::refusal(alloc, "no program is launched yet");
+            return refusal(alloc, NOT_LAUNCHED);
         };
         let mut moved = match first_move(alloc, launched, &mut self.shown) {
             Ok(moved) => moved,
@@ -128,7 +127,7 @@ impl Adapter {
     }
 
     // Writes the script, where one is to be written and was not.
-    fn keep<R: Files>(&mut self, rt: &R, alloc: Global) -> AllocResult<()> {
+    fn keep(&mut self, alloc: Global) -> AllocResult<()> {
         if self.is_kept {
             return Ok(());
         }
@@ -137,24 +136,26 @@ impl Adapter {
         };
         if let Some(path) = &launched.settings.script {
             let text = script(alloc, &launched.debuggee)?;
-            self.is_kept = is_written(rt, path.as_str(), text.as_slice());
+            self.is_kept = is_written(self.rt, path.as_str(), text.as_slice());
         }
         Ok(())
     }
 
     /// The program is over; its script is written.
-    pub(crate) fn terminate<R: Files>(&mut self, rt: &R, alloc: Global) -> AllocResult<Answer> {
-        self.keep(rt, alloc)?;
-        self.is_over = true;
+    pub(crate) fn terminate(&mut self, alloc: Global) -> AllocResult<Answer>
+        ensures { IfOk result (λ answer. answer ≡ answers.Terminated) }
+    {
+        self.keep(alloc)?;
         Ok(Answer::Terminated)
     }
 
     /// The session is over; the script is written if it was not.
-    pub(crate) fn disconnect<R: Files>(&mut self, rt: &R, alloc: Global) -> AllocResult<Answer> {
-        self.keep(rt, alloc)?;
-        let tells_end = self.launched.is_some() && !self.is_over;
-        self.is_over = true;
-        self.is_ended = true;
-        Ok(Answer::Disconnected { tells_end })
+    pub(crate) fn disconnect(&mut self, alloc: Global, phase: Phase) -> AllocResult<Answer>
+        ensures { IfOk result (λ answer. answer ≡ answers.Disconnected (is_launched phase)) }
+    {
+        self.keep(alloc)?;
+        Ok(Answer::Disconnected {
+            tells_end: is_launched(phase),
+        })
     }
 }

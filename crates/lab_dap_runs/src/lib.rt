@@ -18,7 +18,7 @@ mod telling;
 mod through;
 
 pub use console::{Console, Manners, asked_in, completed};
-pub use moves::{Step, back, begin, go_on, run_back, step};
+pub use moves::{Stepping, back, begin, go_on, run_back, step};
 pub use still::{jump, pause, start};
 pub use targets::{jumps, tasks};
 pub use through::run_through;

@@ -23,7 +23,7 @@ use std::alloc::Global;
 
 /// How far a step forwards goes.
 #[derive(Clone, Copy)]
-pub enum Step {
+pub enum Stepping {
     In,
     Over,
     Out,
@@ -84,11 +84,11 @@ fn depth_of(machine: &Machine, worker: u8) -> (usize, usize) {
 }
 
 // Whether a step that met a breakpoint would have ended there without it.
-fn ends_there(step: Step, before: (usize, usize), after: (usize, usize)) -> bool {
-    match step {
-        Step::In => true,
-        Step::Over => after <= before,
-        Step::Out => after < before,
+fn ends_there(stepping: Stepping, before: (usize, usize), after: (usize, usize)) -> bool {
+    match stepping {
+        Stepping::In => true,
+        Stepping::Over => after <= before,
+        Stepping::Out => after < before,
     }
 }
 
@@ -98,20 +98,20 @@ fn make_line(
     alloc: Global,
     debuggee: &mut Debuggee,
     worker: u8,
-    step: Step,
+    stepping: Stepping,
 ) -> AllocResult<lab_dap_moves::Moved>
     requires { worker < debuggee.old.book.start.workers }
 {
     let before = depth_of(debuggee.book.machine(), worker);
     let book = &mut debuggee.book;
     let marks = &debuggee.marks;
-    let mut made = match step {
-        Step::In => step_in(alloc, book, marks, worker)?,
-        Step::Over => step_over(alloc, book, marks, worker)?,
-        Step::Out => step_out(alloc, book, marks, worker)?,
+    let mut made = match stepping {
+        Stepping::In => step_in(alloc, book, marks, worker)?,
+        Stepping::Over => step_over(alloc, book, marks, worker)?,
+        Stepping::Out => step_out(alloc, book, marks, worker)?,
     };
     let after = depth_of(debuggee.book.machine(), worker);
-    if matches!(made.why, Why::Break(_)) && ends_there(step, before, after) {
+    if matches!(made.why, Why::Break(_)) && ends_there(stepping, before, after) {
         made.why = Why::Arrived;
     }
     Ok(made)
@@ -122,7 +122,7 @@ fn make_step(
     alloc: Global,
     debuggee: &mut Debuggee,
     worker: u8,
-    step: Step,
+    stepping: Stepping,
     granularity: Granularity,
 ) -> AllocResult<lab_dap_moves::Moved>
     requires { worker < debuggee.old.book.start.workers }
@@ -135,7 +135,7 @@ fn make_step(
             worker,
             &Choice::Next,
         ),
-        Granularity::Line => make_line(alloc, debuggee, worker, step),
+        Granularity::Line => make_line(alloc, debuggee, worker, stepping),
     }
 }
 
@@ -145,7 +145,7 @@ pub fn step(
     debuggee: &mut Debuggee,
     shown: &mut Shown,
     thread: u64,
-    (step, granularity): (Step, Granularity),
+    (stepping, granularity): (Stepping, Granularity),
 ) -> Result<Moved, NotDone> {
     let worker = debuggee.worker(thread)?;
     if debuggee.is_nearly_full(alloc)? {
@@ -153,7 +153,7 @@ pub fn step(
     }
     let is_renewed = make_room(alloc, debuggee)?;
     let worker = debuggee.worker(thread)?;
-    let made = make_step(alloc, debuggee, worker, step, granularity)?;
+    let made = make_step(alloc, debuggee, worker, stepping, granularity)?;
     let made = Made {
         way: Way::Step,
         made,
@@ -219,7 +219,7 @@ fn step_or_begin(
 {
     match task {
         Some(task) => make_start(alloc, debuggee, worker, &task),
-        None => make_step(alloc, debuggee, worker, Step::In, granularity),
+        None => make_step(alloc, debuggee, worker, Stepping::In, granularity),
     }
 }
 
