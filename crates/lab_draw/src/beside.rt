@@ -25,19 +25,20 @@ pub(crate) struct Beside<'a> {
     pub(crate) extent: Extent,
 }
 
-/// What is drawn beside the steps of a picture, by the book of its session. The only error is out of
-/// memory.
+/// What is drawn beside the steps of a picture, by the book of its session, in sight from a step on. The only error is
+/// out of memory.
 pub(crate) fn beside_of<'a>(
     alloc: Global,
     book: &Book,
     steps: &'a [Traced<'_>],
     picture: &Picture,
+    from: u64,
 ) -> AllocResult<Beside<'a>>
     ensures { IfOk result
         (λ beside. beside.extent.scale.first ≡ first_serial picture.now.boxes.items) }
 {
     let story = story_of(alloc, book.journal(), steps)?;
-    let extent = extent_of(picture, &story, book.machine().workers());
+    let extent = extent_of(picture, &story, from, book.machine().workers());
     Ok(Beside { story, extent })
 }
 
@@ -53,7 +54,7 @@ fn first_serial(boxes: &[StepBox]) -> u64
 
 // How large a picture is, by its first and its last step. Steps that were taken out before the first
 // one that stands have no column.
-fn extent_of(picture: &Picture, story: &Story<'_>, workers: u8) -> Extent
+fn extent_of(picture: &Picture, story: &Story<'_>, from: u64, workers: u8) -> Extent
     ensures { result.scale.first ≡ first_serial picture.now.boxes.items }
 {
     let first = first_serial(&picture.boxes);
@@ -65,6 +66,7 @@ fn extent_of(picture: &Picture, story: &Story<'_>, workers: u8) -> Extent
     Extent {
         scale,
         last,
+        from,
         workers,
     }
 }

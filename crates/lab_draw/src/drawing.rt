@@ -42,18 +42,35 @@ pub fn page<H: Threads + Wait + Sync, R: Read>(
     requires at_most_32 { options.workers ≤ 32 }
     ensures { IfOk result (Shows (R.remaining reader.old) (R.remaining reader.new) options.entry) }
 {
+    page_from(rt, alloc, reader, options, 0)
+}
+
+/// The page of a session as `page` has it, of which the steps from this serial on are in sight. They are all there.
+///
+/// Errors are `Read` (H3), where a read fails, and `Memory` (H5).
+pub fn page_from<H: Threads + Wait + Sync, R: Read>(
+    rt: &H,
+    alloc: Global,
+    reader: &mut R,
+    options: Options<'_>,
+    from: u64,
+) -> Result<Page, ShellFault>
+    requires at_least_one { 0 < options.workers }
+    requires at_most_32 { options.workers ≤ 32 }
+    ensures { IfOk result (Shows (R.remaining reader.old) (R.remaining reader.new) options.entry) }
+{
     let input = read_all(alloc, reader)?;
     match hear(rt, alloc, &input, options) {
         Ok(heard) => {
             let source = session_bytes(options.source, &input).source;
-            shown(alloc, source, heard)
+            shown(alloc, source, heard, from)
         }
         Err(fault) => Err(fault),
     }
 }
 
 // What is shown of a session of which this was heard.
-fn shown(alloc: Global, source: &[u8], heard: Heard) -> Result<Page, ShellFault>
+fn shown(alloc: Global, source: &[u8], heard: Heard, from: u64) -> Result<Page, ShellFault>
     ensures { IfOk result (IsShown heard.book heard.text.items) }
 {
     let Heard {
@@ -62,7 +79,7 @@ fn shown(alloc: Global, source: &[u8], heard: Heard) -> Result<Page, ShellFault>
         turned_down,
     } = heard;
     match book {
-        Some(book) => match drawn(alloc, source, &book) {
+        Some(book) => match drawn(alloc, source, &book, from) {
             Ok(page) => Ok(Page::Drawn { page, turned_down }),
             Err(error) => Err(ShellFault::from(error)),
         },
@@ -71,13 +88,13 @@ fn shown(alloc: Global, source: &[u8], heard: Heard) -> Result<Page, ShellFault>
 }
 
 // The page of a source, with the history of a book's machine. The only error is out of memory.
-fn drawn(alloc: Global, source: &[u8], book: &Book) -> AllocResult<Vec<u8>>
+fn drawn(alloc: Global, source: &[u8], book: &Book, from: u64) -> AllocResult<Vec<u8>>
     ensures { IfOk result (λ page. IsDrawing (machine_of book.now) page.items) }
 {
     let machine = book.machine();
     let steps = trace(alloc, machine)?;
     let picture = picture_of(alloc, &steps)?;
-    let beside = beside_of(alloc, book, &steps, &picture)?;
+    let beside = beside_of(alloc, book, &steps, &picture, from)?;
     let front = front_of(alloc, machine.program(), source, &picture, &beside)?;
     with_elements(front, machine.program(), beside.extent.scale, &picture)
 }

@@ -23,8 +23,8 @@ fn push_escaped_byte(text: &mut Vec<u8>, byte: u8) -> AllocResult<()>
     }
 }
 
-/// Appends bytes as text of a page, in an element or between single quotes.
-pub(crate) fn push_escaped(text: &mut Vec<u8>, bytes: &[u8]) -> AllocResult<()>
+/// Appends bytes as text of a page, in an element or between single quotes. The only error is out of memory.
+pub fn push_escaped(text: &mut Vec<u8>, bytes: &[u8]) -> AllocResult<()>
     ensures { OnOk result (text.new.items ≡ text.old.items ++ escaped bytes.now) }
 {
     for byte in bytes {

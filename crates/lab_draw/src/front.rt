@@ -16,6 +16,8 @@ pub(crate) struct Extent {
     pub(crate) scale: Scale,
     /// The serial of the last step that has a column.
     pub(crate) last: u64,
+    /// The serial of the first step that is in sight.
+    pub(crate) from: u64,
     pub(crate) workers: u8,
 }
 
@@ -25,9 +27,14 @@ impl Extent {
         self.scale.first <= serial && serial <= self.last
     }
 
-    // How wide the picture is, in points.
+    // How wide all columns are, in points.
     fn width(self) -> u128 {
         self.scale.left(self.last).saturating_add(240)
+    }
+
+    // Where the picture begins, in points from the left of all columns.
+    fn start(self) -> u128 {
+        self.scale.left(self.from).saturating_sub(8)
     }
 
     // How high it is.
@@ -126,9 +133,10 @@ fn push_padding(text: &mut Vec<u8>, number: u32) -> AllocResult<()> {
     }
 }
 
-// Appends the size of a drawing, and the class of a small one.
-fn push_size(text: &mut Vec<u8>, width: u128, height: u128) -> AllocResult<()> {
-    push_numbered(text, b" viewBox='0 0 ", width)?;
+// Appends the size of a drawing, and where it begins from the left.
+fn push_size(text: &mut Vec<u8>, start: u128, width: u128, height: u128) -> AllocResult<()> {
+    push_numbered(text, b" viewBox='", start)?;
+    push_numbered(text, b" 0 ", width)?;
     push_attribute(text, b" ", height)?;
     push_numbered(text, b" width='", width)?;
     push_numbered(text, b"pt' height='", height)?;
@@ -138,7 +146,7 @@ fn push_size(text: &mut Vec<u8>, width: u128, height: u128) -> AllocResult<()> {
 // Appends the names of the lanes, which stay at the left.
 fn push_lane_names(text: &mut Vec<u8>, extent: Extent) -> AllocResult<()> {
     text.extend_from_slice(b"<svg class='lanes'")?;
-    push_size(text, 76, extent.height())?;
+    push_size(text, 0, 76, extent.height())?;
     for worker in 0..extent.workers {
         push_attribute(text, b"<text x='8' y='", 120 * u128::from(worker) + 64)?;
         push_numbered(text, b">worker ", worker)?;
@@ -154,7 +162,8 @@ fn push_picture_begin(text: &mut Vec<u8>, extent: Extent) -> AllocResult<()> {
     } else {
         text.extend_from_slice(b"<svg")?;
     }
-    push_size(text, extent.width(), extent.height())?;
+    let (start, width) = (extent.start(), extent.width());
+    push_size(text, start, width.saturating_sub(start), extent.height())?;
     text.extend_from_slice(HEADS)
 }
 

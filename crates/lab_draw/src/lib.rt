@@ -20,6 +20,7 @@ mod story;
 mod strokes;
 mod style;
 
-pub use drawing::page;
+pub use drawing::{page, page_from};
+pub use escape::push_escaped;
 pub use outcome::Page;
 pub use scale::Scale;

@@ -1,7 +1,7 @@
 use Rattle.std.proofs.lemmas.Result.{IfOk-weaker}
 use Rattle.std.specs.Option.{option_copied}
 use Rattle.lab_draw.proofs.Drawings.{page_of}
-use Rattle.lab_draw.proofs.drawing.page.Goals as goal
+use Rattle.lab_draw.proofs.drawing.page_from.Goals as goal
 
 pub returns-in-Ok : goal.returns-in-Ok
 returns-in-Ok g c = IfOk-weaker c.shown.result _ _
