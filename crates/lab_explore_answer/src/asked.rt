@@ -41,6 +41,8 @@ pub struct Answer {
     /// line says so.
     pub text: Vec<u8>,
     pub finding: Finding,
+    /// Whether all was looked at, of which the first line says `complete`.
+    pub is_complete: bool,
     /// Whether there was no memory to go on: then what is told is what was found before.
     pub ran_out: bool,
 }

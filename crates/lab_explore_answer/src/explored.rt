@@ -1,9 +1,8 @@
 //! What is answered for a source.
 
-ghost use Rattle.std.specs.Prelude.{◌≡◌, ◌≤◌, IfOk, IfSome};
-ghost use Rattle.lab_explore_answer.specs.Answers.{Answers};
-ghost use Rattle.lab_explore_answer.specs.Findings.{finding_of, ran_out_by};
-ghost use Rattle.om_frontend.specs.Verdict.{IsProgramOf};
+ghost use Rattle.std.specs.Prelude.{◌≡◌, ◌≤◌, IfOk};
+ghost use Rattle.lab_explore_answer.specs.Answers.{AnswersFor, IsAccepted};
+ghost use Rattle.lab_explore_answer.specs.Findings.{finding_of, is_complete, ran_out_by};
 
 use crate::asked::{Answer, Question};
 use crate::finding::finding_of;
@@ -22,7 +21,7 @@ use std::alloc::{AllocError, Global};
 pub fn answer(alloc: Global, source: &[u8], question: &Question) -> AllocResult<Option<Answer>>
     requires at_least_one { 1 ≤ question.now.workers }
     requires at_most_32 { question.now.workers ≤ 32 }
-    ensures { IfOk result (λ answer. IfSome answer (Answers question.now source.now)) }
+    ensures { IfOk result (AnswersFor question.now source.now) }
 {
     let Some(program) = accepted(alloc, source)? else {
         return Ok(None);
@@ -39,7 +38,7 @@ pub fn answer(alloc: Global, source: &[u8], question: &Question) -> AllocResult<
 
 // The program of a source; `None` where it is refused.
 fn accepted(alloc: Global, source: &[u8]) -> AllocResult<Option<Program>>
-    ensures { IfOk result (λ program. IfSome program (IsProgramOf source.now)) }
+    ensures { IfOk result (IsAccepted source.now) }
 {
     match program_of(alloc, source) {
         Ok(program) => Ok(Some(program)),
@@ -59,6 +58,8 @@ fn told(
 ) -> AllocResult<Answer>
     ensures finding { IfOk result
         (λ answer. answer.finding ≡ finding_of question.now.subject explored.now) }
+    ensures complete { IfOk result
+        (λ answer. answer.is_complete ≡ is_complete explored.now.verdict) }
     ensures ran_out { IfOk result (λ answer. answer.ran_out ≡ ran_out_by explored.now.verdict) }
 {
     let finding = finding_of(question.subject, explored);
@@ -69,6 +70,7 @@ fn told(
     Ok(Answer {
         text,
         finding,
+        is_complete: explored.verdict == Verdict::Complete,
         ran_out: explored.verdict == Verdict::OutOfMemory,
     })
 }

@@ -51,22 +51,35 @@ fn push_first(text: &mut Vec<u8>, question: &Question, explored: &Explored) -> A
             push_counted(text, u64::from(question.workers), b"worker")?;
         }
         Verdict::NotComplete => {
-            push_numbered(text, b"not complete: ", question.limits.states)?;
-            text.extend_from_slice(b" states are stored, and there are more; so far ")?;
+            text.extend_from_slice(b"not complete: ")?;
+            push_stored(text, question.limits.states)?;
+            text.extend_from_slice(b", and there are more; so far ")?;
             push_found(text, question.subject, explored)?;
         }
         Verdict::Stopped => {
-            push_numbered(text, b"stopped: behind ", explored.steps)?;
-            text.extend_from_slice(b" steps, as --steps asks; so far ")?;
+            text.extend_from_slice(b"stopped: behind ")?;
+            push_counted(text, explored.steps, b"step")?;
+            text.extend_from_slice(b", as --steps asks; so far ")?;
             push_found(text, question.subject, explored)?;
         }
         Verdict::OutOfMemory => {
-            push_numbered(text, b"out of memory: behind ", explored.states)?;
-            text.extend_from_slice(b" states; so far ")?;
+            text.extend_from_slice(b"out of memory: behind ")?;
+            push_counted(text, explored.states, b"state")?;
+            text.extend_from_slice(b"; so far ")?;
             push_found(text, question.subject, explored)?;
         }
     }
     text.extend_from_slice(b"\n")
+}
+
+// Appends how many states are stored.
+fn push_stored(text: &mut Vec<u8>, states: u64) -> AllocResult<()> {
+    push_counted(text, states, b"state")?;
+    if states == 1 {
+        text.extend_from_slice(b" is stored")
+    } else {
+        text.extend_from_slice(b" are stored")
+    }
 }
 
 // Appends how much was found of what is asked for.
