@@ -1,0 +1,5 @@
+pub mod Hidings
+pub mod Showings
+pub mod Trials
+pub mod Reports
+pub mod Pages
