@@ -11,15 +11,26 @@ const STATUSES: &str = "With --version alone, standard output tells the version.
 Exit status:
   0  it is done, and nothing bad was found; or help, or the version is told
   1  something bad was found: `hunt` a schedule, `explore` a second end, a fault or a race, `races` a race,
-     `check` a source that is refused; `port` has a text that is refused, or that --strict holds back
+     `check` a source that is refused; `port` has a text that is refused, or that --strict holds back;
+     `report` one of these
   2  wrong words
   3  a fault, told on standard error: H3 a read failed, H4 a write failed, H5 no memory
-  4  nothing bad was found, and not all was looked at: `explore` and `races`
-  5  the source is refused (but by `check` and `port`); standard error tells why and where";
+  4  nothing bad was found, and not all was looked at: `explore`, `races` and `report`
+  5  the source is refused (but by `check`, `port` and `report`); standard error tells why and where";
 
 const SESSION: &str =
     "Without FILE, standard input holds the source up to a line `%%`, and then commands of ompback.
 With FILE, standard input holds commands alone.";
+
+const MACROS: &str =
+    "Without FILE, standard input holds the source up to a line `%%`, and then commands of ompback.
+With FILE, standard input holds commands alone.
+
+With --plain the commands may have macros:
+  # WORDS       a comment
+  step 1 x 20   a command of a worker, so many times
+  until W L     steps of worker W, until it comes from another line to line L
+  until W VAR   steps of worker W, until it changes the global variable";
 
 // The number of workers, which each subcommand takes before or after its name.
 fn threads<'a>(alloc: Global) -> Arg<'a> {
@@ -97,10 +108,21 @@ fn hunt<'a>(alloc: Global) -> AllocResult<Command<'a>> {
             "A schedule is bad where the program prints something else, meets a fault, or is stuck.
 This is no exploration of all schedules and no race detector.",
         );
-    let command = command.arg(seeds(alloc));
+    let command = command.arg(first_seed(alloc));
+    let command = with(command, seeds(alloc));
     let command = with(command, steps(alloc));
     let command = with(command, expect(alloc));
     with(command, file(alloc, true))
+}
+
+fn first_seed<'a>(alloc: Global) -> Arg<'a> {
+    number(
+        alloc,
+        "first-seed",
+        "A",
+        "The first seed: with K schedules, the last one is A + K - 1",
+    )
+    .default_value("1")
 }
 
 fn seeds<'a>(alloc: Global) -> Arg<'a> {
@@ -127,12 +149,55 @@ fn expect<'a>(alloc: Global) -> Arg<'a> {
         .action(ArgAction::Set)
 }
 
+fn report<'a>(alloc: Global) -> AllocResult<Command<'a>> {
+    let command = Command::new(alloc, "report")
+        .about("Writes one page of HTML: what check, port, run, explore and hunt say of a program")
+        .after_help(
+            "Where the schedules have more states than --states allows, or something bad was found in them, schedules are
+tried by chance; the first bad one is shown with its script, its picture and all of its steps.",
+        );
+    let command = command.arg(few_states(alloc));
+    let command = with(command, first_seed(alloc));
+    let command = with(command, seeds(alloc));
+    let command = with(command, steps(alloc));
+    with(command, file(alloc, true))
+}
+
+fn few_states<'a>(alloc: Global) -> Arg<'a> {
+    number(
+        alloc,
+        "states",
+        "M",
+        "How many states are stored at most where all schedules are looked at",
+    )
+    .default_value("100000")
+}
+
 fn script<'a>(alloc: Global) -> AllocResult<Command<'a>> {
     let command = Command::new(alloc, "script")
         .about("Writes the steps that a session leaves as a script for ompback")
-        .after_help(SESSION);
+        .after_help(MACROS);
     let command = command.arg(cone(alloc));
+    let command = with(command, plain(alloc));
+    let command = with(command, walk(alloc));
     with(command, file(alloc, false))
+}
+
+fn plain<'a>(alloc: Global) -> Arg<'a> {
+    Arg::new(alloc, "plain")
+        .long("plain")
+        .help("Writes the commands themselves, with macros taken away, in place of the steps")
+        .action(ArgAction::SetTrue)
+}
+
+fn walk<'a>(alloc: Global) -> Arg<'a> {
+    number(
+        alloc,
+        "steps",
+        "M",
+        "How many steps an `until` makes at most",
+    )
+    .default_value("10000")
 }
 
 fn cone<'a>(alloc: Global) -> Arg<'a> {
@@ -250,6 +315,7 @@ pub(crate) fn omplab<'a>(alloc: Global) -> AllocResult<Command<'a>> {
     let command = command.arg(threads(alloc));
     let command = over(command, check(alloc));
     let command = over(command, port(alloc));
+    let command = over(command, report(alloc));
     let command = over(command, hunt(alloc));
     let command = over(command, explore(alloc));
     let command = over(command, races(alloc));

@@ -8,9 +8,11 @@ use crate::meter::{AGAIN, Meter};
 use lab_check::{Report, report};
 use lab_check_kinds::checked;
 use lab_draw::{Page, page};
-use lab_hunt::{Aims, Hunted, push_report};
+use lab_hunt::{Aims, Hunted, Seeds, push_report};
+use lab_macros::{Expanded, Place, expanded};
 use lab_notes::annotate;
 use lab_script::{Script, ScriptFault, cone, script};
+use lab_text::first_line;
 use lab_text::status::{BAD, DONE, FAULT, REFUSED};
 use om_seq::AllocResult;
 use om_shell::{Options, ShellFault, read_all, send, session_bytes};
@@ -78,7 +80,7 @@ pub(crate) fn check<H, W: Write>(host: &Host<'_, '_, H>, writer: &mut W) -> Resu
 /// What a hunt looks for, and how long.
 #[derive(Clone, Copy)]
 pub(crate) struct Search<'a> {
-    pub(crate) seeds: u64,
+    pub(crate) seeds: Seeds,
     pub(crate) steps: u64,
     /// What the program is to print, with `\n` for a line end; where it is `None`, what `run` prints.
     pub(crate) expected: Option<&'a str>,
@@ -200,6 +202,35 @@ pub(crate) fn keep<H: Runtime + Threads + Wait + Sync, R: Read, W: Write>(
     }
 }
 
+/// Writes the commands that a command file with macros stands for. Which macros stand for nothing goes to standard
+/// error.
+pub(crate) fn plain<H: Threads + Wait + Sync, R: Read, W: Write>(
+    host: &Host<'_, '_, H>,
+    most: u64,
+    reader: &mut R,
+    writer: &mut W,
+) -> Result<u8, ShellFault>
+    requires least { 0 < host.now.options.workers }
+    requires most { host.now.options.workers ≤ 32 }
+{
+    let input = read_all(host.alloc, reader)?;
+    let session = session_bytes(host.options.source, &input);
+    let place = Place {
+        workers: host.options.workers,
+        source: session.source,
+        most,
+        first: first_line(&input, session.commands),
+    };
+    match expanded(host.rt, host.alloc, &place, session.commands) {
+        Ok(Expanded::Commands { lines, told }) => {
+            host.tell(&told);
+            written(writer, &lines, DONE)
+        }
+        Ok(Expanded::Refused(_)) => host.refuse(session.source),
+        Err(fault) => Err(within(fault)),
+    }
+}
+
 /// Draws what a session leaves. Which commands were turned down goes to standard error.
 pub(crate) fn draw<H: Threads + Wait + Sync, R: Read, W: Write>(
     host: &Host<'_, '_, H>,
@@ -224,17 +255,17 @@ pub(crate) fn draw<H: Threads + Wait + Sync, R: Read, W: Write>(
     }
 }
 
-// The fault of a session that was run apart: such a session writes into memory, which takes every byte for which there
-// is room.
-fn within(fault: ShellFault) -> ShellFault {
+/// The fault of a session that was run apart: such a session writes into memory, which takes every byte for which there
+/// is room.
+pub(crate) fn within(fault: ShellFault) -> ShellFault {
     match fault {
         ShellFault::Write => ShellFault::Memory,
         other => other,
     }
 }
 
-// Writes a text, and answers the exit status that goes with it.
-fn written<W: Write>(writer: &mut W, text: &[u8], status: u8) -> Result<u8, ShellFault> {
+/// Writes a text, and answers the exit status that goes with it.
+pub(crate) fn written<W: Write>(writer: &mut W, text: &[u8], status: u8) -> Result<u8, ShellFault> {
     send(writer, text)?;
     Ok(status)
 }

@@ -35,12 +35,26 @@ pub enum Asked<'a> {
     /// To try schedules by chance, and shorten the first bad one.
     Hunt {
         file: &'a str,
+        /// The first seed, from 1 on.
+        first: u64,
         /// How many schedules are tried, from 1 on.
-        seeds: u64,
+        count: u64,
         /// How many steps a schedule has at most, from 1 on.
         steps: u64,
         /// What the program is to print; where it is `None`, what `run` prints.
         expected: Option<&'a str>,
+    },
+    /// To write one page about a program.
+    Report {
+        file: &'a str,
+        /// How many states are stored at most where all schedules are looked at.
+        states: u64,
+        /// The first seed of the hunt, from 1 on.
+        first: u64,
+        /// How many schedules are tried, from 1 on.
+        count: u64,
+        /// How many steps a schedule has at most, from 1 on.
+        steps: u64,
     },
     /// To look at all schedules.
     Explore {
@@ -56,6 +70,8 @@ pub enum Asked<'a> {
         file: Option<&'a str>,
         /// The serial of the step whose cone is asked for.
         cone: Option<u64>,
+        /// How many steps an `until` makes at most, where the commands themselves are asked for.
+        plain: Option<u64>,
     },
     /// To pass answers on with words after them.
     Notes {
@@ -131,11 +147,13 @@ fn asked_by<'a>(name: &str, given: &ArgMatches<'a>) -> Option<Asked<'a>> {
             list: given.get_flag("list"),
         },
         "hunt" => hunt_by(file?, given)?,
+        "report" => report_by(file?, given)?,
         "explore" => explore_by(file?, Subject::Ends, given)?,
         "races" => explore_by(file?, Subject::Races, given)?,
         "script" => Asked::Script {
             file,
             cone: given.get_one::<u64>("cone"),
+            plain: plain_by(given)?,
         },
         "notes" => Asked::Notes { file: file? },
         "draw" => Asked::Draw { file },
@@ -156,11 +174,29 @@ fn explore_by<'a>(file: &'a str, subject: Subject, given: &ArgMatches<'a>) -> Op
     })
 }
 
+// How many steps an `until` makes at most, where the commands themselves are asked for.
+fn plain_by(given: &ArgMatches<'_>) -> Option<Option<u64>> {
+    let most = given.get_one::<u64>("steps")?;
+    Some(given.get_flag("plain").then_some(most))
+}
+
+// What a report asks for.
+fn report_by<'a>(file: &'a str, given: &ArgMatches<'a>) -> Option<Asked<'a>> {
+    Some(Asked::Report {
+        file,
+        states: given.get_one::<u64>("states")?,
+        first: given.get_one::<u64>("first-seed")?,
+        count: given.get_one::<u64>("seeds")?,
+        steps: given.get_one::<u64>("steps")?,
+    })
+}
+
 // What a hunt asks for.
 fn hunt_by<'a>(file: &'a str, given: &ArgMatches<'a>) -> Option<Asked<'a>> {
     Some(Asked::Hunt {
         file,
-        seeds: given.get_one::<u64>("seeds")?,
+        first: given.get_one::<u64>("first-seed")?,
+        count: given.get_one::<u64>("seeds")?,
         steps: given.get_one::<u64>("steps")?,
         expected: given.get_str("expect"),
     })
