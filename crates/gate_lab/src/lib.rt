@@ -6,6 +6,7 @@
 #![tactic(auto)]
 
 mod hunts;
+mod reports;
 mod schedules;
 mod sections;
 mod subcommands;

@@ -3,11 +3,13 @@
 ghost use Rattle.std.specs.Prelude.{◌≡◌};
 
 use crate::hunts::hunted;
+use crate::reports::reported;
 use crate::schedules::explored;
 use crate::sections::{Given, cut};
 use lab_check::{Report, report};
 use lab_draw::{Page, page};
 use lab_explore_answer::Subject;
+use lab_macros::{Expanded, Place, expanded};
 use lab_notes::annotate;
 use lab_script::{Script, ScriptFault, cone, script};
 use lab_text::status::{BAD, DONE, REFUSED, WORDS};
@@ -20,8 +22,8 @@ use std::thread::Threads;
 /// How many workers run each source.
 pub(crate) const WORKERS: u8 = 2;
 
-// The file in which a report says that the source stands.
-const FILE: &str = "a.c";
+/// The file in which a report says that the source stands.
+pub(crate) const FILE: &str = "a.c";
 
 /// The exit status of a subcommand, and what it writes.
 #[derive(Drop)]
@@ -48,6 +50,8 @@ pub(crate) fn written_by<R: Threads + Wait + Sync>(
         "explore" => explored(alloc, Subject::Ends, numbers, given),
         "races" => explored(alloc, Subject::Races, numbers, given),
         "script" => scripted(rt, alloc, given),
+        "macros" => plain(rt, alloc, number_in(numbers), given),
+        "report" => reported(rt, alloc, given),
         "cone" => coned(rt, alloc, number_in(numbers), given),
         "notes" => noted(alloc, given),
         "draw" => drawn(rt, alloc, given),
@@ -106,6 +110,29 @@ fn scripted<R: Threads + Wait + Sync>(
     let mut reader = given.input.unwrap_or(&[]);
     let script = script(rt, alloc, &mut reader, options(given))?;
     Ok(lines_of(alloc, given, script)?)
+}
+
+// The commands that macros stand for, where an `until` makes so many steps at most.
+fn plain<R: Threads + Wait + Sync>(
+    rt: &R,
+    alloc: Global,
+    most: u64,
+    given: Given<'_>,
+) -> Result<Written, ScriptFault> {
+    let place = Place {
+        workers: WORKERS,
+        source: given.source,
+        most,
+        first: 1,
+    };
+    match expanded(rt, alloc, &place, given.input.unwrap_or(&[]))? {
+        Expanded::Commands { lines, told } => Ok(Written {
+            status: DONE,
+            text: lines,
+            told,
+        }),
+        Expanded::Refused(_) => Ok(refused(alloc, given, Vec::new(alloc))?),
+    }
 }
 
 // The steps that a roll would take.
