@@ -1,14 +1,15 @@
 -- Steps of a worker up to a place.
-use Rattle.std.specs.Prelude.{ℕ, zero, suc, ◌+◌, cond, Option, None, Some}
+use Rattle.std.specs.Prelude.{ℕ, zero, suc, ◌+◌, Bool, cond, Option, None, Some}
 use Rattle.om_state.specs.declared.step.Choice.TheVariants.{Next}
 use Rattle.om_book.specs.Books.{BookView, is_full, machine_of}
 use Rattle.om_shell_commands.specs.declared.stop.Stop.{Stop}
 use Rattle.om_shell_commands.specs.declared.stop.Stop.TheVariants as stop
 use Rattle.om_shell_debugger.specs.declared.marks.Marks.{Marks}
 use Rattle.om_shell_debugger.specs.Calls.{with_step}
-use Rattle.om_shell_debugger.specs.Runs.{can_step}
 use Rattle.om_shell_debugger.specs.Stops.{stop_after}
 use Rattle.om_task.specs.Plans.{label_at}
+use Rattle.om_undo.specs.Machines.{step_reply}
+use Rattle.om_undo.specs.PlannedSteps.{is_made}
 use Rattle.lab_macros.specs.declared.walk.Miss.TheVariants.{Blocked, Faulted, Full, Far}
 use Rattle.lab_macros.specs.declared.walk.Stride.{Stride}
 use Rattle.lab_macros.specs.declared.walk.Stride.TheVariants as stride
@@ -21,15 +22,19 @@ stride_by None = stride.On
 stride_by (Some (stop.Fault fault worker)) = stride.Missed Faulted
 stride_by (Some _) = stride.There
 
+-- a worker can make its next step where a book stands
+abbrev pub can_step : ℕ → BookView → Bool
+can_step worker b = is_made (step_reply (machine_of b) (label_at worker Next))
+
 -- what comes of a worker's next step where a book stands, if it can be made and recorded
 abbrev pub stride_of : Marks → ℕ → BookView → Stride
-stride_of marks worker b = cond (can_step (machine_of b) worker Next)
+stride_of marks worker b = cond (can_step worker b)
     (cond (is_full b) (stride.Missed Full) (stride_by (stop_after marks b (label_at worker Next))))
     (stride.Missed Blocked)
 
 -- what it leaves
 abbrev pub behind_stride : ℕ → BookView → BookView
-behind_stride worker b = cond (can_step (machine_of b) worker Next)
+behind_stride worker b = cond (can_step worker b)
     (cond (is_full b) b (with_step b (label_at worker Next))) b
 
 -- where the worker is on its way, the rest of the way says it
