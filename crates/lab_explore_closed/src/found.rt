@@ -56,6 +56,17 @@ pub struct FoundFault {
     pub met: Met,
 }
 
+/// How the access of a variable by a step is atomic.
+#[derive(Clone, Copy)]
+pub enum Atomicity {
+    /// It is not.
+    Plain,
+    /// It is that of an `atomic`, which reads, writes or updates.
+    Atomic,
+    /// It is a reduction's update of the original variable, which is atomic with others of its kind alone.
+    Reduction,
+}
+
 /// How a step accesses a variable.
 #[derive(Clone, Copy, PartialEq, Eq)]
 pub enum AccessKind {

@@ -6,7 +6,6 @@ use Rattle.std.specs.Prelude.{Contains}
 use Rattle.std.proofs.lemmas.Bool.Decides.{nat_tests, Decides-eqb}
 use Rattle.std.proofs.lemmas.List.Elements.{All-contains, Contains-append_right, Contains-append_cases}
 use Rattle.std.proofs.lemmas.List.Elements.{Contains-push_cases}
-use Rattle.om_code.specs.declared.instruction.Instr.{Instr}
 use Rattle.om_code.specs.declared.raw.Raw.{Raw}
 use Rattle.om_foot.specs.declared.footprint.Access.{Access}
 use Rattle.om_foot.specs.declared.footprint.Mode.{Mode}
@@ -21,14 +20,16 @@ use Rattle.om_state.specs.Rules.{next_state, step_at}
 use Rattle.om_state.specs.State.{State}
 use Rattle.om_undo.specs.Machines.{MachineView, rules_for, state_in}
 use Rattle.om_undo_history.specs.Runs.{label_of}
+use Rattle.lab_explore_closed.specs.declared.found.Atomicity.{Atomicity}
+use Rattle.lab_explore_closed.specs.declared.found.Atomicity.TheVariants.{Atomic, Plain, Reduction}
 use Rattle.lab_explore_closed.specs.declared.found.FoundRace.{FoundRace}
 use Rattle.lab_explore_closed.specs.declared.found.Pair.{Pair}
 use Rattle.lab_explore_closed.specs.declared.found.Place.{Place}
 use Rattle.lab_explore_closed.specs.declared.found.Racer.{Racer}
 use Rattle.lab_explore_closed.specs.Endings.{control_at}
 use Rattle.lab_explore_closed.specs.Explored.{IsPossibleRace, pair_of_found}
-use Rattle.lab_explore_closed.specs.Races.{IsRace, Accesses, is_data, is_update, is_reduction, are_atomic_together}
-use Rattle.lab_explore_closed.specs.Races.{instruction_of, kind_number, place_at, pair_of}
+use Rattle.lab_explore_closed.specs.Races.{IsRace, Accesses, is_data, are_atomic_together, atomicity_of}
+use Rattle.lab_explore_closed.specs.Races.{kind_number, place_at, pair_of}
 use Rattle.lab_explore_closed.specs.Races.{pair_at, is_behind, racer_at}
 use Rattle.lab_explore_closed.specs.Runs.{Leads, IsEnd}
 use Rattle.lab_explore_moves.specs.declared.possible.PossibleStep.{PossibleStep}
@@ -65,14 +66,14 @@ steps_on m a b p qs adds h q at = meetings_on m a b p.label q.label p.accesses q
 pub no_race : (m : MachineView) (p q : PossibleStep) (x y : Access) → IsPossible m p → IsPossible m q
     → can_race p q ≡ false → ¬ IsRace m.program m.workers (state_in m) p.label q.label x y
 no_race m p q x y p_is q_is h race =
-    go (nat_eq p.label.worker q.label.worker) (are_atomic_together p.instruction q.instruction) refl refl h
+    go (nat_eq p.label.worker q.label.worker) (are_atomic_together p.atomicity q.atomicity) refl refl h
   where
     go : (a b : Bool) → nat_eq p.label.worker q.label.worker ≡ a
-        → are_atomic_together p.instruction q.instruction ≡ b → not a && not b ≡ false → ⊥
+        → are_atomic_together p.atomicity q.atomicity ≡ b → not a && not b ≡ false → ⊥
     go true b e f g = race.others ((Decides-eqb p.label.worker q.label.worker).0 e)
     go false true e f g =
         let no : true ≡ false =
-        sym f ∙ (λ i. are_atomic_together (p_is.instruction i) (q_is.instruction i)) ∙ race.plain in cc
+        sym f ∙ (λ i. are_atomic_together (p_is.atomicity i) (q_is.atomicity i)) ∙ race.plain in cc
     go false false e f g = cc
 
 pub can_be : (m : MachineView) (p q : PossibleStep) (x y : Access) → IsPossible m p → IsPossible m q
@@ -81,7 +82,7 @@ pub can_be : (m : MachineView) (p q : PossibleStep) (x y : Access) → IsPossibl
     → IsRace m.program m.workers (state_in m) p.label q.label x y
 can_be m p q x y p_is q_is can x_at y_at h =
     let t = two_true (not (nat_eq p.label.worker q.label.worker))
-    (not (are_atomic_together p.instruction q.instruction)) can in
+    (not (are_atomic_together p.atomicity q.atomicity)) can in
     let u = two_true (is_data x.object) (obj_eq x.object y.object && modes_conflict x.mode y.mode) h in
     let v = two_true (obj_eq x.object y.object) (modes_conflict x.mode y.mode) u.1 in
     record {
@@ -98,8 +99,8 @@ can_be m p q x y p_is q_is can x_at y_at h =
       same = obj_eq-true x.object y.object v.0;
       variable = u.0;
       conflict = v.1;
-      plain = (λ i. are_atomic_together (sym p_is.instruction i) (sym q_is.instruction i))
-          ∙ not_true (are_atomic_together p.instruction q.instruction) t.1;
+      plain = (λ i. are_atomic_together (sym p_is.atomicity i) (sym q_is.atomicity i))
+          ∙ not_true (are_atomic_together p.atomicity q.atomicity) t.1;
     }
   where
     same_not : (b : Bool) → not b ≡ true → b ≡ true → ⊥
@@ -167,15 +168,16 @@ modes_turned mode.Add mode.Read = refl
 modes_turned mode.Add mode.Write = refl
 modes_turned mode.Add mode.Add = refl
 
-and_turned : (a b : Bool) → (a && b) ≡ (b && a)
-and_turned true true = refl
-and_turned true false = refl
-and_turned false true = refl
-and_turned false false = refl
-
-atomic_turned : (a b : Option Instr) → are_atomic_together a b ≡ are_atomic_together b a
-atomic_turned a b =
-    λ i. and_turned (is_update a) (is_update b) i || and_turned (is_reduction a) (is_reduction b) i
+atomic_turned : (a b : Atomicity) → are_atomic_together a b ≡ are_atomic_together b a
+atomic_turned Plain Plain = refl
+atomic_turned Plain Atomic = refl
+atomic_turned Plain Reduction = refl
+atomic_turned Atomic Plain = refl
+atomic_turned Atomic Atomic = refl
+atomic_turned Atomic Reduction = refl
+atomic_turned Reduction Plain = refl
+atomic_turned Reduction Atomic = refl
+atomic_turned Reduction Reduction = refl
 
 turned : (program : Raw) (workers : ℕ) (s : State) (a b : Label) (x y : Access) → IsRace program workers s a b x y
     → IsRace program workers s b a y x
@@ -186,8 +188,8 @@ turned program workers s a b x y h = record {
   same = sym h.same;
   variable = subst (λ q. is_data q ≡ true) h.same h.variable;
   conflict = modes_turned y.mode x.mode ∙ h.conflict;
-  plain = atomic_turned (instruction_of program (control_at s b.worker) b.choice)
-      (instruction_of program (control_at s a.worker) a.choice) ∙ h.plain;
+  plain = atomic_turned (atomicity_of program (control_at s b.worker) b.choice)
+      (atomicity_of program (control_at s a.worker) a.choice) ∙ h.plain;
 }
 
 not_both : (a b c d : ℕ) → (nat_lt b a || (nat_eq b a && nat_lt d c)) ≡ true

@@ -85,7 +85,7 @@ pub record Adds (m : MachineView) (old new : List FoundRace) : Type 0 where
 
 -- whether two steps are of different workers, and are not atomic together
 abbrev pub can_race : PossibleStep → PossibleStep → Bool
-can_race p q = not (nat_eq p.label.worker q.label.worker) && not (are_atomic_together p.instruction q.instruction)
+can_race p q = not (nat_eq p.label.worker q.label.worker) && not (are_atomic_together p.atomicity q.atomicity)
 
 -- each race of a step with one of these is noted
 abbrev pub AreNotedOf : MachineView → List FoundRace → PossibleStep → List PossibleStep → Type 0

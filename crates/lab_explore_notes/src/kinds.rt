@@ -1,10 +1,10 @@
 //! What an instruction does to a variable that it accesses.
 
 ghost use Rattle.std.specs.Prelude.{◌≡◌};
-ghost use Rattle.lab_explore_closed.specs.Races.{is_data, is_update, is_reduction, are_atomic_together, ends_lives, kind_of, is_behind};
+ghost use Rattle.lab_explore_closed.specs.Races.{is_data, are_atomic_together, ends_lives, kind_of, is_behind};
 
-use lab_explore_closed::{AccessKind, Place};
-use om_code::{Function, Instr, Serial, Sharing, Task, Team};
+use lab_explore_closed::{AccessKind, Atomicity, Place};
+use om_code::{Function, Instr, Serial, Task, Team};
 use om_foot::{Mode, Obj};
 
 /// Whether an object is a cell of a variable.
@@ -27,28 +27,15 @@ pub(crate) fn is_data(object: &Obj) -> bool
     }
 }
 
-// Whether an instruction is an update of `atomic`.
-fn is_update(instruction: Option<Instr>) -> bool
-    ensures { result ≡ is_update instruction }
-{
-    matches!(
-        instruction,
-        Some(Instr::Serial(Serial::Atomic { .. } | Serial::AtomicElement { .. }))
-    )
-}
-
-// Whether an instruction is a reduction's update of the original variable.
-fn is_reduction(instruction: Option<Instr>) -> bool
-    ensures { result ≡ is_reduction instruction }
-{
-    matches!(instruction, Some(Instr::Sharing(Sharing::Reduce { .. })))
-}
-
-/// Whether accesses of one variable by two instructions are ordered by being atomic.
-pub(crate) fn are_atomic_together(first: Option<Instr>, second: Option<Instr>) -> bool
+/// Whether accesses of one variable by two steps are ordered by being atomic.
+pub(crate) fn are_atomic_together(first: Atomicity, second: Atomicity) -> bool
     ensures { result ≡ are_atomic_together first second }
 {
-    (is_update(first) && is_update(second)) || (is_reduction(first) && is_reduction(second))
+    match first {
+        Atomicity::Plain => false,
+        Atomicity::Atomic => matches!(second, Atomicity::Atomic),
+        Atomicity::Reduction => matches!(second, Atomicity::Reduction),
+    }
 }
 
 // Whether an instruction ends the lives of variables, or makes one unset.

@@ -87,8 +87,7 @@ fn note_pair(
 fn can_race(step: &PossibleStep, other: &PossibleStep) -> bool
     ensures { result ≡ can_race step.now other.now }
 {
-    step.label.worker != other.label.worker
-        && !are_atomic_together(step.instruction, other.instruction)
+    step.label.worker != other.label.worker && !are_atomic_together(step.atomicity, other.atomicity)
 }
 
 // A step that a worker can make, and an access of it.

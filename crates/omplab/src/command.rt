@@ -148,9 +148,8 @@ fn cone<'a>(alloc: Global) -> Arg<'a> {
 const SCHEDULES: &str =
     "Complete speaks of the schedules of a machine: N workers, one instruction a step, and memory that all see in one
 order. A ready task is begun at a barrier, at a wait, at a yield and where a task or a thread ends. Accesses meet
-where two workers stand before them at one moment, and one of them stores. A pair that meets is a data race, unless
-both accesses are under `atomic`: those of `atomic read` and `atomic write` count as plain ones here. Accesses that
-only a chunk of a loop, a section or a `single` orders never meet.";
+where two workers stand before them at one moment, one of them stores, and they are not both under `atomic`. A pair
+that meets is a data race. Accesses that only a chunk of a loop, a section or a `single` orders never meet.";
 
 fn explore<'a>(alloc: Global) -> AllocResult<Command<'a>> {
     let command = Command::new(alloc, "explore")
