@@ -34,8 +34,7 @@ pub struct PossibleStep {
     pub accesses: Seq<Access>,
 }
 
-/// The steps that workers can make at a machine, each once: by worker, the next instruction first, then the starts of
-/// tasks by their names. Its only error is out of memory.
+/// The steps that workers can make at a machine. Its only error is out of memory.
 pub fn possible_steps(alloc: Global, machine: &Machine) -> AllocResult<Vec<PossibleStep>>
     ensures { IfOk result (λ v. ArePossible machine.now v.items) }
 {

@@ -1,7 +1,7 @@
 //! What an instruction does to a variable that it accesses.
 
 ghost use Rattle.std.specs.Prelude.{◌≡◌};
-ghost use Rattle.lab_explore_closed.specs.Races.{is_data, are_atomic_together, ends_lives, kind_of, is_behind};
+ghost use Rattle.lab_explore_closed.specs.Races.{is_data, is_atomic, is_combining, are_atomic_together, ends_lives, kind_of, is_behind};
 
 use lab_explore_closed::{AccessKind, Atomicity, Place};
 use om_code::{Function, Instr, Serial, Task, Team};
@@ -27,15 +27,35 @@ pub(crate) fn is_data(object: &Obj) -> bool
     }
 }
 
-/// Whether accesses of one variable by two steps are ordered by being atomic.
-pub(crate) fn are_atomic_together(first: Atomicity, second: Atomicity) -> bool
-    ensures { result ≡ are_atomic_together first second }
+// Whether an access is one of `atomic`.
+fn is_atomic(atomicity: Atomicity) -> bool
+    ensures { result ≡ is_atomic atomicity }
 {
-    match first {
+    matches!(atomicity, Atomicity::Atomic)
+}
+
+// Whether an access combines: a reduction writes the original, and reads its copy as any other instruction does.
+fn is_combining(atomicity: Atomicity, mode: Mode) -> bool
+    ensures { result ≡ is_combining atomicity mode }
+{
+    match atomicity {
+        Atomicity::Reduction => matches!(mode, Mode::Write),
         Atomicity::Plain => false,
-        Atomicity::Atomic => matches!(second, Atomicity::Atomic),
-        Atomicity::Reduction => matches!(second, Atomicity::Reduction),
+        Atomicity::Atomic => false,
     }
+}
+
+/// Whether accesses of one variable, in these modes, are ordered by being atomic.
+pub(crate) fn are_atomic_together(
+    first: Atomicity,
+    mode: Mode,
+    second: Atomicity,
+    other: Mode,
+) -> bool
+    ensures { result ≡ are_atomic_together first mode second other }
+{
+    (is_atomic(first) && is_atomic(second))
+        || (is_combining(first, mode) && is_combining(second, other))
 }
 
 // Whether an instruction ends the lives of variables, or makes one unset.
@@ -58,7 +78,7 @@ pub(crate) fn kind_of(instruction: Option<Instr>, mode: Mode) -> AccessKind
     match mode {
         Mode::Write => write_of(instruction),
         Mode::Read => AccessKind::Reads,
-        Mode::Add => AccessKind::Reads,
+        Mode::Add => AccessKind::Writes,
     }
 }
 
