@@ -10,6 +10,7 @@ class Lowering(StatementCode):
     """The code of all functions of a resolved tree."""
 
     def lower(self):
+        self.locks = []
         for item in self.resolved.functions:
             self.bodies = []
             item.function.body = self.function(item)
@@ -55,6 +56,7 @@ class Lowering(StatementCode):
                 self.emit(*instruction)
         elif name == "critical":
             lock = node.argument or "-"
+            self.locks += [] if lock in self.locks else [lock]
             self.enclosed(node, line, [("CRACQ", lock), ("CRIN", lock)], ("CROUT", lock))
         elif name == "taskgroup":
             self.enclosed(node, line, [("TGB",)], ("TGE",))
@@ -89,8 +91,11 @@ class Lowering(StatementCode):
         self.patch(jump)
 
     def atomic(self, node):
-        if node.form[0] == "assign":
-            return self.store(node.body.value, 0)
+        if node.form[0] != "update":
+            self.store(node.body.value, 0)
+            # The store comes last, and the load of what is read before it.
+            self.body.atomic.add(self.here - 1 - (node.form[0] == "read"))
+            return
         _, operator, side, target, value = node.form
         if target.kind == "index":
             self.value(target.index)

@@ -193,7 +193,8 @@ def is_place(expression):
 
 
 def atomic_form(directive):
-    """What an `atomic` does to its variable, or None where its statement is none of the forms (OpenMP 5.2, 15.8.4)."""
+    """What an `atomic` does to its variable, or None where its statement is none of the forms (OpenMP 5.2, 15.8.4): ("read",), ("write",)
+    or what `update_form` gives."""
     if directive.body.kind != "expression":
         return None
     kind = next((clause.kind for clause in reversed(directive.clauses) if clause.kind in ("read", "write")), "update")
@@ -202,7 +203,7 @@ def atomic_form(directive):
 
 def assign_form(expression, kind):
     is_form = expression.kind == "assign" and expression.operator == "=" and is_place(expression.target)
-    return ("assign",) if is_form and (kind == "write" or is_place(expression.value)) else None
+    return (kind,) if is_form and (kind == "write" or is_place(expression.value)) else None
 
 
 def update_form(expression):

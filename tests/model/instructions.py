@@ -21,6 +21,7 @@ class Body:
 
     def __init__(self, region, outer):
         self.code, self.lines, self.region = [], [], region
+        self.atomic = set()         # the places of the loads and stores of `atomic read` and `atomic write`
         self.outer = outer          # the variables in scope round the construct
         self.variables = []         # the variable, the first instruction in its scope, and the one behind its scope
         self.copied = [slot for slot, _ in sorted(region.copied, key=lambda pair: pair[0])]

@@ -1,5 +1,6 @@
 -- A search that begins: it has stored the start, and looked at nothing.
 use Rattle.std.proofs.Common.{◌≡◌, refl, sym, ◌∙◌, ap, subst, ℕ, Bool, true, false, List, [], ◌∷◌, ◌++◌, map, arith}
+use Rattle.std.proofs.Common.{◌≤◌, ◌+◌, length}
 use Rattle.std.proofs.Common.{⊎_elim, ◌⊎◌, inl, inr}
 use Rattle.std.specs.Prelude.{All, Contains}
 use Rattle.std.proofs.lemmas.List.Elements.{All-nil, All-cons, Contains-push_cases}
@@ -21,13 +22,13 @@ module _ (program : Raw) (workers : ℕ) where
 
   pub begun : (x : Search) (s : StatesView) (added : Bool) → x.machine ≡ at_start program workers
       → s ≡ at_the_start program workers → Inserts added s (seen x.stored) → x.todos ≡ []
-      → ((p : Raw) (n : ℕ) → AreSound p n x.notes)
+      → ((p : Raw) (n : ℕ) → AreSound p n x.notes) → x.steps ≡ 0 → x.goes_round ≡ false
       → HasArrived program workers (acts_of x) x
-  begun x s false m is inserts none sound =
+  begun x s false m is inserts none sound steps round =
       let at : Contains [] (rules_of program workers).start =
       subst (λ (t : StatesView). Contains t.states t.at) is inserts.0 in
       absurd (omega (arith, at.1))
-  begun x s true m is inserts none sound =
+  begun x s true m is inserts none sound steps round =
       let r : Rules = rules_of program workers in
       let stored : seen x.stored ≡ record (at_the_start program workers) { states = r.start ∷ [] } =
       inserts.1 ∙ ap (λ (t : StatesView). record t { states = t.states ++ t.at ∷ [] }) is in
@@ -41,10 +42,14 @@ module _ (program : Raw) (workers : ℕ) where
               (All-nil (IsReached r workers)));
           different = subst (λ (ss : List State). AllDifferent ss) (sym states)
               ((λ at. absurd (omega (arith, at.1))), tt);
+          begun = subst (λ (ss : List State). 1 ≤ length ss) (sym states) (omega arith);
+          stepped = subst (λ (ss : List State). length ss ≤ x.steps + 1) (sym states) (omega arith);
+          round = λ is. absurd (not_both (sym round ∙ is));
         };
         way = record {
           program_is = ap (λ (n : MachineView). n.program) m;
           workers_are = ap (λ (n : MachineView). n.workers) m;
+          steps_are = steps ∙ sym (ap (λ (n : MachineView). n.history.made) m);
           latest = [];
           entries = ap (λ (n : MachineView). n.history.entries) m;
           leads = subst IsOnWay (sym m) leads;
@@ -61,6 +66,9 @@ module _ (program : Raw) (workers : ℕ) where
         noted = λ t at. inr (only t at states);
       }
     where
+      not_both : false ≡ true → ⊥
+      not_both h = cc
+
       one : (start t : State) → Contains (start ∷ []) t → start ≡ t
       one start t at = ⊎_elim (λ no. absurd (omega (arith, no.1))) (λ is. is) (Contains-push_cases [] start t at)
 

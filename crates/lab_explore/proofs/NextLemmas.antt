@@ -8,7 +8,7 @@ use Rattle.lab_explore_states.specs.Sets.{StatesView, Inserts, gone_to}
 use Rattle.lab_explore.specs.declared.search.Search.{Search}
 use Rattle.lab_explore.specs.declared.todo.Todo.{Todo}
 use Rattle.lab_explore.specs.Acts.{Act, Back}
-use Rattle.lab_explore.specs.Searches.{acts_of, IsUnderWay, IsSearch, HasArrived, Arrives}
+use Rattle.lab_explore.specs.Searches.{acts_of, IsSafe, IsUnderWay, IsSearch, HasArrived, Arrives}
 
 module _ (program : Raw) (workers : ℕ) where
   -- a set behind a step, and what is known by whether its state is new
@@ -42,11 +42,23 @@ module _ (program : Raw) (workers : ℕ) where
 
   -- what is to be done is no part of where a search stands
 
+  abbrev safe_but : (x : Search) (todos : List Todo) → IsSafe program workers x
+      → IsSafe program workers (record x { todos = todos })
+  safe_but x todos h = record {
+    sound = h.sound;
+    reached = h.reached;
+    different = h.different;
+    begun = h.begun;
+    stepped = h.stepped;
+    round = h.round;
+  }
+
   abbrev way_but : (acts : List Act) (x : Search) (todos : List Todo) → IsUnderWay program workers acts x
       → IsUnderWay program workers acts (record x { todos = todos })
   way_but acts x todos h = record {
     program_is = h.program_is;
     workers_are = h.workers_are;
+    steps_are = h.steps_are;
     latest = h.latest;
     entries = h.entries;
     leads = h.leads;
@@ -58,7 +70,7 @@ module _ (program : Raw) (workers : ℕ) where
   pub search_but : (acts : List Act) (x : Search) (todos : List Todo) → IsSearch program workers acts x
       → IsSearch program workers acts (record x { todos = todos })
   search_but acts x todos h = record {
-    safe = record { sound = h.safe.sound; reached = h.safe.reached; different = h.safe.different };
+    safe = safe_but x todos h.safe;
     way = way_but acts x todos h.way;
     start = h.start;
     closed = h.closed;
@@ -68,7 +80,7 @@ module _ (program : Raw) (workers : ℕ) where
   pub arrived_but : (acts : List Act) (x : Search) (todos : List Todo) → HasArrived program workers acts x
       → HasArrived program workers acts (record x { todos = todos })
   arrived_but acts x todos h = record {
-    safe = record { sound = h.safe.sound; reached = h.safe.reached; different = h.safe.different };
+    safe = safe_but x todos h.safe;
     way = way_but acts x todos h.way;
     start = h.start;
     here = h.here;

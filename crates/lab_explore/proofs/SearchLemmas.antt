@@ -26,7 +26,7 @@ use Rattle.lab_explore_closed.specs.Explored.{AreAllEnds, AreAllFaults, AreAllRa
 use Rattle.lab_explore_closed.specs.Explored.{met_of_found, pair_of_found}
 use Rattle.lab_explore_closed.specs.Lists.{AllDifferent}
 use Rattle.lab_explore_closed.specs.Races.{IsRace}
-use Rattle.lab_explore_closed.specs.Runs.{AreOf, Leads, IsReached, IsEnd}
+use Rattle.lab_explore_closed.specs.Runs.{AreOf, Leads, IsReached, IsEnd, GoesRound}
 use Rattle.lab_explore_moves.specs.declared.possible.PossibleStep.{PossibleStep}
 use Rattle.lab_explore_moves.specs.Possible.{IsPossible, ArePossible, label_of_possible}
 use Rattle.lab_explore_notes.specs.declared.notes.Notes as notes
@@ -40,6 +40,7 @@ use Rattle.lab_explore.specs.Acts.{state_by, past_by, Stands, AllLead, AllLeadBu
 use Rattle.lab_explore.specs.Searches.{acts_of, IsSafe, IsUnderWay, IsSearch, HasArrived, Answers, Arrives}
 use Rattle.lab_explore.proofs.ActLemmas.{stands_on, stands_more, not_made, made_again}
 use Rattle.lab_explore.proofs.ActLemmas.{made_new, all_tried, nothing_left}
+use Rattle.lab_explore.proofs.RoundLemmas.{goes_round}
 use Rattle.lab_explore.proofs.WayLemmas.{undone, IsOneMore, one_more_made, none_made, IsFurther}
 use Rattle.lab_explore.proofs.WayLemmas.{leads_on, leads_back, last_own}
 
@@ -52,6 +53,19 @@ different_push (y ∷ ys) x h not = (
       (Contains-push_cases ys x y at)),
   different_push ys x h.1 (λ at. not (suc at.0, omega (arith, at.1), at.2)),
 )
+
+-- how many states and steps there are
+
+one_longer : (xs : List State) (x : State) → length (xs ++ x ∷ []) ≡ length xs + 1
+one_longer [] x = omega arith
+one_longer (y ∷ ys) x = let rest = one_longer ys x in omega (arith, rest)
+
+step_more : (states steps more : ℕ) → states ≤ steps + 1 → more ≡ steps + 1 → states ≤ more + 1
+step_more states steps more h is = omega (arith, h, is)
+
+state_more : (states steps more_states more_steps : ℕ) → states ≤ steps + 1 → more_states ≡ states + 1
+    → more_steps ≡ steps + 1 → (1 ≤ more_states) × (more_states ≤ more_steps + 1)
+state_more states steps more_states more_steps h is also = (omega (arith, is), omega (arith, h, is, also))
 
 -- where the machine stands
 
@@ -69,11 +83,13 @@ module _ (program : Raw) (workers : ℕ) where
 
   abbrev way_with : (acts new : List Act) (x y : Search) (way : IsUnderWay program workers acts x) → y.machine ≡
       x.machine
-      → y.stored ≡ x.stored → Stands (rules_of program workers) workers (seen x.stored).states new way.latest
+      → y.stored ≡ x.stored → y.steps ≡ x.steps
+      → Stands (rules_of program workers) workers (seen x.stored).states new way.latest
       → IsUnderWay program workers new y
-  way_with acts new x y way m s stands = record {
+  way_with acts new x y way m s steps stands = record {
     program_is = ap (λ (n : MachineView). n.program) m ∙ way.program_is;
     workers_are = ap (λ (n : MachineView). n.workers) m ∙ way.workers_are;
+    steps_are = steps ∙ way.steps_are ∙ sym (ap (λ (n : MachineView). n.history.made) m);
     latest = way.latest;
     entries = ap (λ (n : MachineView). n.history.entries) m ∙ way.entries;
     leads = subst IsOnWay (sym m) way.leads;
@@ -84,13 +100,17 @@ module _ (program : Raw) (workers : ℕ) where
         stands;
   }
 
-  safe_with : (x y : Search) → AreSound program workers y.notes → y.stored ≡ x.stored → IsSafe program workers x
-      → IsSafe program workers y
-  safe_with x y sound s safe = record {
+  safe_with : (x y : Search) → AreSound program workers y.notes → y.stored ≡ x.stored → y.steps ≡ x.steps
+      → y.goes_round ≡ x.goes_round → IsSafe program workers x → IsSafe program workers y
+  safe_with x y sound s steps round safe = record {
     sound = sound;
     reached = subst (λ (t : WalkView). All (IsReached (rules_of program workers) workers) (seen t).states) (sym s)
         safe.reached;
     different = subst (λ (t : WalkView). AllDifferent (seen t).states) (sym s) safe.different;
+    begun = subst (λ (t : WalkView). 1 ≤ length (seen t).states) (sym s) safe.begun;
+    stepped = subst (λ n. length (seen y.stored).states ≤ n + 1) (sym steps)
+        (subst (λ (t : WalkView). length (seen t).states ≤ x.steps + 1) (sym s) safe.stepped);
+    round = λ is. safe.round (sym round ∙ is);
   }
 
   keeps_noted : (old new : notes.Notes) (s : State) → KeepsAll old new → IsNoted program workers old s
@@ -111,17 +131,17 @@ module _ (program : Raw) (workers : ℕ) where
       (All-weaker (IsPossible m) (λ (p : PossibleStep). p.label.worker < m.workers) (λ p h. h.worker) ps all)) at
 
   pub looked_around : (acts : List Act) (x y : Search) (ps : List PossibleStep) → HasArrived program workers acts x
-      → ArePossible x.machine ps → y.machine ≡ x.machine → y.stored ≡ x.stored
-      → AreSound program workers y.notes → KeepsAll x.notes y.notes
+      → ArePossible x.machine ps → y.machine ≡ x.machine → y.stored ≡ x.stored → y.steps ≡ x.steps
+      → y.goes_round ≡ x.goes_round → AreSound program workers y.notes → KeepsAll x.notes y.notes
       → IsNoted program workers y.notes (state_in x.machine)
       → IsSearch program workers (tries (map label_of_possible ps) acts) y
-  looked_around acts x y ps h possible m s sound keeps noted =
+  looked_around acts x y ps h possible m s steps round sound keeps noted =
       let r : Rules = rules_of program workers in
       let ls : List Label = map label_of_possible ps in
       let here : state_in x.machine ≡ state_by r h.way.latest = here_is acts x h.way in
       record {
-        safe = safe_with x y sound s h.safe;
-        way = way_with acts (tries ls acts) x y h.way m s
+        safe = safe_with x y sound s steps round h.safe;
+        way = way_with acts (tries ls acts) x y h.way m s steps
             (stands_on r workers (seen x.stored).states ls acts h.way.latest
             (λ l at. subst (λ n. l.worker < n) h.way.workers_are (possible_own x.machine ps possible.each l at))
             (subst (λ t. Contains (seen x.stored).states t) here h.here) h.way.stands);
@@ -169,8 +189,8 @@ module _ (program : Raw) (workers : ℕ) where
 
   pub gone_back : (w : ℕ) (acts : List Act) (x y : Search) → IsSearch program workers (Back w ∷ acts) x
       → y.machine ≡ with_undo x.machine w → GoesBack (seen x.stored) (seen y.stored) → y.notes ≡ x.notes
-      → IsSearch program workers acts y
-  gone_back w acts x y h m s n = go h.way.latest h.way.entries h.way.past h.way.stands h.closed
+      → y.steps ≡ x.steps → y.goes_round ≡ x.goes_round → IsSearch program workers acts y
+  gone_back w acts x y h m s n steps round = go h.way.latest h.way.entries h.way.past h.way.stands h.closed
     where
       go : (latest : List Entry) → x.machine.history.entries ≡ in_order latest
           → (seen x.stored).past ≡ past_by (rules_of program workers) latest
@@ -209,10 +229,15 @@ module _ (program : Raw) (workers : ℕ) where
               sound = subst (λ t. AreSound program workers t) (sym n) h.safe.sound;
               reached = subst (λ ss. All (IsReached r workers) ss) states h.safe.reached;
               different = subst (λ (ss : List State). AllDifferent ss) states h.safe.different;
+              begun = subst (λ (ss : List State). 1 ≤ length ss) states h.safe.begun;
+              stepped = subst (λ k. length (seen y.stored).states ≤ k + 1) (sym steps)
+                  (subst (λ (ss : List State). length ss ≤ x.steps + 1) states h.safe.stepped);
+              round = λ is. h.safe.round (sym round ∙ is);
             };
             way = record {
               program_is = program_is;
               workers_are = workers_are;
+              steps_are = steps ∙ h.way.steps_are ∙ sym (ap (λ (k : MachineView). k.history.made) back);
               latest = latest;
               entries = now;
               leads = subst (λ (p : Raw × ℕ × List Entry). Leads (rules_of p.0 p.1) p.1 (map label_of p.2)
@@ -251,7 +276,7 @@ module _ (program : Raw) (workers : ℕ) where
       ∙ none_made x.machine l not in
       record {
         safe = h.safe;
-        way = way_with (Try l ∷ acts) acts x x h.way refl refl h.way.stands.2;
+        way = way_with (Try l ∷ acts) acts x x h.way refl refl refl h.way.stands.2;
         start = h.start;
         closed = not_made r workers (seen x.stored).states l acts h.way.latest h.closed none;
         noted = h.noted;
@@ -261,11 +286,12 @@ module _ (program : Raw) (workers : ℕ) where
 
   pub made_known : (l : Label) (acts : List Act) (x y : Search) (s : StatesView)
       → IsSearch program workers (Try l ∷ acts) x → IsOneMore x.machine l y.machine
-      → s ≡ gone_to (state_in y.machine) (seen x.stored) → y.notes ≡ x.notes
+      → s ≡ gone_to (state_in y.machine) (seen x.stored) → y.notes ≡ x.notes → y.steps ≡ x.steps + 1
+      → y.goes_round ≡ x.goes_round
       → (added : Bool) → Inserts added s (seen y.stored) → added ≡ true
       → HasArrived program workers (Back l.worker ∷ acts) y
-  made_known l acts x y s h more follows n false inserts is_true = cc
-  made_known l acts x y s h more follows n true inserts is_true =
+  made_known l acts x y s h more follows n steps round false inserts is_true = cc
+  made_known l acts x y s h more follows n steps round true inserts is_true =
       let r : Rules = rules_of program workers in
       let latest : List Entry = h.way.latest in
       let e : Entry = more.entry in
@@ -299,6 +325,8 @@ module _ (program : Raw) (workers : ℕ) where
       let new : ¬ Contains (seen x.stored).states u =
       λ there. inserts.0 (subst (λ (t : StatesView). Contains t.states t.at) (sym follows)
       (subst (λ t. Contains (seen x.stored).states t) (sym here) there)) in
+      let counts = state_more (length (seen x.stored).states) x.steps (length (seen y.stored).states) y.steps
+      h.safe.stepped (ap (λ (ss : List State). length ss) states ∙ one_longer (seen x.stored).states u) steps in
       record {
         safe = record {
           sound = subst (λ t. AreSound program workers t) (sym n) h.safe.sound;
@@ -310,10 +338,15 @@ module _ (program : Raw) (workers : ℕ) where
               }));
           different = subst (λ (ss : List State). AllDifferent ss) (sym states)
               (different_push (seen x.stored).states u h.safe.different new);
+          begun = counts.0;
+          stepped = counts.1;
+          round = λ is. h.safe.round (sym round ∙ is);
         };
         way = record {
           program_is = program_is;
           workers_are = workers_are;
+          steps_are = steps ∙ ap (λ k. k + 1) h.way.steps_are
+              ∙ sym (ap (λ (k : MachineView). k.history.made) more.machine);
           latest = e ∷ latest;
           entries = entries;
           leads = subst (λ (p : Raw × ℕ × List Entry). Leads (rules_of p.0 p.1) p.1 (map label_of p.2)
@@ -357,8 +390,9 @@ module _ (program : Raw) (workers : ℕ) where
       → IsSearch program workers (Try l ∷ acts) x → IsOneMore x.machine l m → s ≡ gone_to (state_in m) (seen x.stored)
       → Contains s.states s.at → t ≡ s → y.machine ≡ with_undo m l.worker → GoesBack t (seen y.stored) → y.notes ≡
       x.notes
+      → y.steps ≡ x.steps + 1 → (y.goes_round ≡ true → (x.goes_round ≡ true) ⊎ Contains t.past t.at)
       → IsSearch program workers acts y
-  made_back l acts x y m s t h more follows known same back goes n =
+  made_back l acts x y m s t h more follows known same back goes n steps round =
       let r : Rules = rules_of program workers in
       let latest : List Entry = h.way.latest in
       let e : Entry = more.entry in
@@ -396,15 +430,29 @@ module _ (program : Raw) (workers : ℕ) where
       let in_it : Contains (seen x.stored).states u =
       subst (λ k. Contains (seen x.stored).states k) there
       (subst (λ (k : StatesView). Contains k.states k.at) follows known) in
+      let again : Contains t.past t.at → GoesRound r workers =
+      λ at. goes_round r workers (e ∷ latest) u
+      (subst (λ k. Leads r workers (map label_of (in_order latest ++ e ∷ [])) k) on.state on.leads)
+      (subst (λ k. Contains (past_by r (e ∷ latest)) k) there
+      (subst (λ ss. Contains ss (state_in m))
+      (λ i. (sym h.way.stands_at.state ∙ here_is (Try l ∷ acts) x h.way) i ∷ h.way.past i)
+      (subst (λ (k : StatesView). Contains k.past k.at) (same ∙ follows) at))) in
       record {
         safe = record {
           sound = subst (λ k. AreSound program workers k) (sym n) h.safe.sound;
           reached = subst (λ ss. All (IsReached r workers) ss) states h.safe.reached;
           different = subst (λ (ss : List State). AllDifferent ss) states h.safe.different;
+          begun = subst (λ (ss : List State). 1 ≤ length ss) states h.safe.begun;
+          stepped = step_more (length (seen y.stored).states) x.steps y.steps
+              (subst (λ (ss : List State). length ss ≤ x.steps + 1) states h.safe.stepped) steps;
+          round = λ is. ⊎_elim (λ old. h.safe.round old) again (round is);
         };
         way = record {
           program_is = program_is;
           workers_are = workers_are;
+          steps_are = steps ∙ ap (λ k. k + 1) h.way.steps_are
+              ∙ sym (ap (λ (k : MachineView). k.history.made) more.machine)
+              ∙ sym (ap (λ (k : MachineView). k.history.made) undo);
           latest = latest;
           entries = entries;
           leads = subst (λ (p : Raw × ℕ × List Entry). Leads (rules_of p.0 p.1) p.1 (map label_of p.2)
@@ -431,8 +479,9 @@ module _ (program : Raw) (workers : ℕ) where
   -- a search that stops
 
   pub complete : (limits : Limits) (acts : List Act) (x y : Search) → IsSearch program workers acts x → acts ≡ []
-      → y.stored ≡ x.stored → y.notes ≡ x.notes → Answers program workers limits verdict.Complete y
-  complete limits acts x y h none s n =
+      → y.stored ≡ x.stored → y.notes ≡ x.notes → y.steps ≡ x.steps → y.goes_round ≡ x.goes_round
+      → Answers program workers limits verdict.Complete y
+  complete limits acts x y h none s n steps round =
       let r : Rules = rules_of program workers in
       let closed : AllLead r workers (seen x.stored).states [] h.way.latest =
       subst (λ more. AllLead r workers (seen x.stored).states more h.way.latest) none h.closed in
@@ -441,7 +490,7 @@ module _ (program : Raw) (workers : ℕ) where
       (nothing_left r workers (seen x.stored).states h.way.latest closed) ls r.start t h.start leads.own
       leads.replayed) in
       record {
-        safe = safe_with x y (subst (λ k. AreSound program workers k) (sym n) h.safe.sound) s h.safe;
+        safe = safe_with x y (subst (λ k. AreSound program workers k) (sym n) h.safe.sound) s steps round h.safe;
         all_ends = λ _. subst (λ (k : notes.Notes). AreAllEnds program workers (map ending_of_found k.ends)) (sym n)
             (λ ls t leads end. (all ls t leads).end end);
         all_faults = λ _. subst (λ (k : notes.Notes). AreAllFaults program workers (map met_of_found k.faults)) (sym n)

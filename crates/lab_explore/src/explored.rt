@@ -16,10 +16,11 @@ const MOST_TURNS: u64 = 1 << 62;
 
 /// Explores all schedules of a program with 1 to 32 workers: every end, every fault that is met and every race.
 ///
-/// Where the answer is complete, nothing else can happen in any schedule of this machine. It is not complete where
-/// more states were met than may be stored. It stops behind so many steps, where they are limited. Where there is no
-/// memory to go on, or behind 2^62 turns of the search, what was found so far is answered. The only error is that there
-/// is no memory to begin.
+/// Where the answer is complete, no schedule of this machine comes to another end, fault or race. Of schedules that go
+/// on for ever it says that some go round, where that was seen, and nothing else. It is not complete where more states
+/// were met than may be stored. It stops behind so many steps, where they are limited. Where there is no memory to go on,
+/// or behind 2^62 turns of the search, what was found so far is answered. The only error is that there is no memory to
+/// begin.
 pub fn explore(
     alloc: Global,
     program: Program,
@@ -63,6 +64,7 @@ fn told(search: Search, verdict: Verdict) -> Explored
         stored,
         todos,
         notes,
+        goes_round,
         steps,
     } = search;
     let states = stored.len() as u64;
@@ -79,6 +81,7 @@ fn told(search: Search, verdict: Verdict) -> Explored
         faults,
         races,
         verdict,
+        goes_round,
         states,
         steps,
     }

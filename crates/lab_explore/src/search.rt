@@ -1,6 +1,6 @@
 //! The search.
 
-ghost use Rattle.std.specs.Prelude.{◌≡◌, ◌+◌, ◌<◌, ◌≤◌, ◌^◌, ◌∷◌, List, true, IfOk, OnOk, OnErr};
+ghost use Rattle.std.specs.Prelude.{◌≡◌, ◌+◌, ◌<◌, ◌≤◌, ◌^◌, ◌⊎◌, ◌∷◌, List, true, Contains, IfOk, OnOk, OnErr};
 ghost use Rattle.om_state.specs.State.{State};
 ghost use Rattle.om_undo.specs.Machines.{step_reply, with_undo};
 ghost use Rattle.om_undo.specs.PlannedSteps.{is_made};
@@ -27,8 +27,19 @@ pub(crate) struct Search {
     pub(crate) stored: Stored,
     pub(crate) todos: Pile<Todo>,
     pub(crate) notes: Notes,
+    /// Whether it was seen that a run comes to a state and back to it.
+    pub(crate) goes_round: bool,
     /// How many steps were made.
     pub(crate) steps: u64,
+}
+
+// Whether a run comes to a state and back to it: whether that was seen before, or the set stands where it stood before
+// on its way.
+fn goes_round(before: bool, stored: &Stored) -> bool
+    ensures { result ≡ true
+        → (before ≡ true) ⊎ Contains (seen stored.now).past (seen stored.now).at }
+{
+    before || stored.is_round()
 }
 
 impl Search {
@@ -60,6 +71,7 @@ impl Search {
             stored,
             todos: Pile::new(alloc),
             notes: Notes::new(alloc),
+            goes_round: false,
             steps: 0,
         })
     }
@@ -89,6 +101,7 @@ impl Search {
             Some(Todo::Try { worker, start }) => self.try_step(alloc, worker, &start, limits),
         }
     }
+
     // Takes the last step back, which is this worker's.
     fn back(&mut self, worker: u8)
         requires { IsSearch self.old.machine.program self.old.machine.workers
@@ -111,6 +124,8 @@ impl Search {
         ensures stored { GoesBack (seen self.old.stored) (seen self.new.stored) }
         ensures notes { self.new.notes ≡ self.old.notes }
         ensures todos { self.new.todos ≡ self.old.todos }
+        ensures round { self.new.goes_round ≡ self.old.goes_round }
+        ensures steps { self.new.steps ≡ self.old.steps }
     {
         let _ = self.machine.undo(worker);
         self.stored.back();
@@ -202,9 +217,10 @@ impl Search {
     {
         let worker = step.worker();
         self.stored.take(alloc, &mut self.machine, step)?;
-        self.steps = self.steps.saturating_add(1);
+        self.steps += 1;
         let is_new = self.stored.insert(alloc)?;
         if !is_new {
+            self.goes_round = goes_round(self.goes_round, &self.stored);
             self.undo_last(worker);
         }
         Ok(is_new)

@@ -25,6 +25,7 @@ pub(crate) fn report(
             push_stopped_workers(&mut text, explored)?;
         }
     }
+    push_round(&mut text, explored.goes_round)?;
     push_sizes(&mut text, explored)?;
     Ok(text)
 }
@@ -109,6 +110,16 @@ fn push_stopped_workers(text: &mut Vec<u8>, explored: &Explored) -> AllocResult<
     text.extend_from_slice(b"workers stop at ")?;
     push_counted(text, explored.faults.len() as u64, b"fault")?;
     text.extend_from_slice(b": what lies behind them was not looked at\n")
+}
+
+// Appends that schedules go round, where that was seen.
+fn push_round(text: &mut Vec<u8>, goes_round: bool) -> AllocResult<()> {
+    if !goes_round {
+        return Ok(());
+    }
+    text.extend_from_slice(
+        b"some schedules go round for ever (perhaps one in which a worker never gets its turn)\n",
+    )
 }
 
 // Appends how much was looked at.

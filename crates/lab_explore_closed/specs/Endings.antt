@@ -68,10 +68,11 @@ waits_at program workers s zero = []
 waits_at program workers s (suc worker) =
     waits_at program workers s worker ++ wait_in program workers s worker (control_at s worker)
 
--- an ending, by the faults that were met, the control of the initial task's worker, what was printed, and who waits
+-- an ending, by the faults that were met, the control of the initial task's worker, what was printed, and who waits.
+-- A program has not ended where another worker waits for ever, though its initial task has
 abbrev pub ending_of : List Met → controls.Control → List ℕ → List Wait → Ending
 ending_of (m ∷ ms) control output waits = Faults (m ∷ ms) output
-ending_of [] (Ended value) output waits = Ends value output
+ending_of [] (Ended value) output [] = Ends value output
 ending_of [] _ output waits = Sticks output waits
 
 -- the ending of a state at which no step can be made

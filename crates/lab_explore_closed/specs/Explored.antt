@@ -1,5 +1,5 @@
 -- What an exploration of all schedules promises.
-use Rattle.std.specs.Prelude.{◌≡◌, ◌≢◌, ℕ, ◌<◌, ◌≤◌, false, Option, None, Some, List, map, length, All, Contains}
+use Rattle.std.specs.Prelude.{◌≡◌, ℕ, ◌+◌, ◌<◌, ◌≤◌, true, false, Some, List, map, length, All, Contains}
 use Rattle.om_code.specs.declared.raw.Raw.{Raw}
 use Rattle.om_foot.specs.declared.footprint.Access.{Access}
 use Rattle.om_state.specs.declared.step.Label.{Label}
@@ -18,7 +18,7 @@ use Rattle.lab_explore_closed.specs.declared.found.Verdict.TheVariants.{Complete
 use Rattle.lab_explore_closed.specs.Endings.{IsMet, ending_at}
 use Rattle.lab_explore_closed.specs.Lists.{AllDifferent}
 use Rattle.lab_explore_closed.specs.Races.{IsRace, pair_at, place_at, is_behind, racer_at}
-use Rattle.lab_explore_closed.specs.Runs.{Leads, IsReached, IsEnd}
+use Rattle.lab_explore_closed.specs.Runs.{Leads, IsReached, IsEnd, GoesRound}
 
 -- ---- what is listed is there
 
@@ -101,8 +101,13 @@ pub record IsExplored (program : Raw) (workers : ℕ) (limits : Limits) (e : ans
   pub all_ends : e.verdict ≡ Complete → AreAllEnds program workers (map ending_of_found e.ends)
   pub all_faults : e.verdict ≡ Complete → AreAllFaults program workers (map met_of_found e.faults)
   pub all_races : e.verdict ≡ Complete → AreAllRaces program workers (map pair_of_found e.races)
-  -- as many states as were stored are reached, and differ
+  -- as many states as were stored are reached, and differ: the start, and for each other one a step was made
   pub counted : AreReached program workers e.states
-  -- it is not complete only where there are at least as many as may be stored, and it stops only where steps are limited
-  pub gave_up : e.verdict ≡ NotComplete → AreReached program workers limits.states
-  pub asked : e.verdict ≡ Stopped → limits.steps ≢ None
+  pub begun : 1 ≤ e.states
+  pub stepped : e.states ≤ e.steps + 1
+  -- it is not complete only where more are reached than may be stored, and it stops only behind as many steps as may be
+  -- made
+  pub gave_up : e.verdict ≡ NotComplete → AreReached program workers (limits.states + 1)
+  pub asked : e.verdict ≡ Stopped → limits.steps ≡ Some e.steps
+  -- that runs go round is said only where one does
+  pub round : e.goes_round ≡ true → GoesRound (rules_of program workers) workers

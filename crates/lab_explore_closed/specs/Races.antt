@@ -1,6 +1,8 @@
 -- Two workers whose next steps access one variable, and what tells two such pairs apart.
 use Rattle.std.specs.Prelude.{◌≡◌, ◌≢◌, ℕ, ◌<◌, Bool, true, false, cond, nat_eq, nat_lt, ◌&&◌, ◌||◌, is_some}
 use Rattle.std.specs.Prelude.{Option, None, Some, List, [], ◌∷◌, ◌++◌, zero, suc, length, Contains, if◌then◌else◌}
+use Rattle.std.specs.Prelude.{slice_get}
+use Rattle.std.specs.List.{list_any}
 use Rattle.om_code.specs.declared.instruction.Instr.{Instr}
 use Rattle.om_code.specs.declared.instruction.Instr.TheVariants as i
 use Rattle.om_code.specs.declared.instruction.Serial.TheVariants as serials
@@ -8,6 +10,7 @@ use Rattle.om_code.specs.declared.instruction.Function.TheVariants as calls
 use Rattle.om_code.specs.declared.instruction.Team.TheVariants as teams
 use Rattle.om_code.specs.declared.instruction.Sharing.TheVariants as sharings
 use Rattle.om_code.specs.declared.instruction.Task.TheVariants as taskings
+use Rattle.om_code.specs.declared.raw.Body.{Body}
 use Rattle.om_code.specs.declared.raw.Raw.{Raw}
 use Rattle.om_code.specs.Places.{instruction_at}
 use Rattle.om_foot.specs.declared.footprint.Access.{Access}
@@ -27,6 +30,8 @@ use Rattle.om_state.specs.Values.{holder_in}
 use Rattle.om_task.specs.Rules.{rules_of, line_in}
 use Rattle.lab_explore_closed.specs.declared.found.AccessKind.{AccessKind}
 use Rattle.lab_explore_closed.specs.declared.found.AccessKind.TheVariants.{Reads, Writes, Ends}
+use Rattle.lab_explore_closed.specs.declared.found.Atomicity.{Atomicity}
+use Rattle.lab_explore_closed.specs.declared.found.Atomicity.TheVariants.{Atomic, Plain, Reduction}
 use Rattle.lab_explore_closed.specs.declared.found.Pair.{Pair}
 use Rattle.lab_explore_closed.specs.declared.found.Place.{Place}
 use Rattle.lab_explore_closed.specs.declared.found.Racer.{Racer}
@@ -59,17 +64,51 @@ is_update (Some (i.Serial (serials.Atomic operator side place))) = true
 is_update (Some (i.Serial (serials.AtomicElement operator side place))) = true
 is_update _ = false
 
--- OpenMP 5.2, 5.5: a reduction's update of the original variable. It is atomic with others of its kind alone
+-- OpenMP 5.2, 5.5: an instruction that combines the copy of a reduction with the original variable
 abbrev pub is_reduction : Option Instr → Bool
 is_reduction (Some (i.Sharing (sharings.Reduce reduction copy place))) = true
 is_reduction _ = false
 
--- two instructions whose accesses of one variable are ordered by being atomic
-abbrev pub are_atomic_together : Option Instr → Option Instr → Bool
-are_atomic_together a b = (is_update a && is_update b) || (is_reduction a && is_reduction b)
+-- OpenMP 5.2, 15.8.4: a place of a body that is the access of an `atomic read` or an `atomic write`
+abbrev pub atomic_in : Option Body → List ℕ
+atomic_in None = []
+atomic_in (Some body) = body.atomic
+
+abbrev pub is_atomic_place : Raw → (body at : ℕ) → Bool
+is_atomic_place program body at = list_any (λ place. nat_eq place at) (atomic_in (slice_get program.bodies body))
+
+-- how an instruction is atomic, at such a place or at another one
+abbrev pub atomicity : Option Instr → (at_place : Bool) → Atomicity
+atomicity instr at_place =
+    if is_reduction instr then Reduction else (if is_update instr || at_place then Atomic else Plain)
+
+-- how the instruction that a control carries out next is atomic
+abbrev pub atomicity_in : Raw → controls.Control → Atomicity
+atomicity_in program (Running stack) =
+    let frame = stack.top.frame in
+    atomicity (instruction_at program frame.body frame.next) (is_atomic_place program frame.body frame.next)
+atomicity_in program _ = Plain
+
+-- how a step is atomic: not, where it begins a task
+abbrev pub atomicity_of : Raw → controls.Control → Choice → Atomicity
+atomicity_of program control Next = atomicity_in program control
+atomicity_of program control (Start task) = Plain
+
+-- an access that combines: a reduction writes the original, and reads its copy as any other instruction does
+abbrev pub is_combining : Atomicity → Mode → Bool
+is_combining Reduction mode.Write = true
+is_combining _ _ = false
+
+abbrev pub is_atomic : Atomicity → Bool
+is_atomic Atomic = true
+is_atomic _ = false
+
+-- accesses of one variable that are ordered by being atomic: two of `atomic`, or two of reductions that both combine
+abbrev pub are_atomic_together : Atomicity → Mode → Atomicity → Mode → Bool
+are_atomic_together a m b n = (is_atomic a && is_atomic b) || (is_combining a m && is_combining b n)
 
 -- two workers stand before steps that can both be made. They access one cell or global, one of them to write it, and
--- are not atomic together (OpenMP 5.2, 1.4.1; C17 5.1.2.4p35)
+-- these accesses are not atomic together (OpenMP 5.2, 1.4.1; C17 5.1.2.4p35)
 pub record IsRace (program : Raw) (workers : ℕ) (s : State) (a b : Label) (x y : Access) : Type 0 where
   pub others : a.worker ≢ b.worker
   pub first : Accesses (rules_of program workers) s a x
@@ -77,8 +116,8 @@ pub record IsRace (program : Raw) (workers : ℕ) (s : State) (a b : Label) (x y
   pub same : x.object ≡ y.object
   pub variable : is_data x.object ≡ true
   pub conflict : modes_conflict x.mode y.mode ≡ true
-  pub plain : are_atomic_together (instruction_of program (control_at s a.worker) a.choice)
-      (instruction_of program (control_at s b.worker) b.choice) ≡ false
+  pub plain : are_atomic_together (atomicity_of program (control_at s a.worker) a.choice) x.mode
+      (atomicity_of program (control_at s b.worker) b.choice) y.mode ≡ false
 
 -- C17 6.2.4: an instruction that ends the lives of variables, or makes one unset where it is declared
 abbrev pub ends_lives : Option Instr → Bool
@@ -89,17 +128,19 @@ ends_lives (Some (i.Team teams.Leave)) = true
 ends_lives (Some (i.Task taskings.TaskEnd)) = true
 ends_lives _ = false
 
--- how an instruction accesses a variable, by the mode
+-- how an instruction accesses a variable, by the mode. No row adds to a variable
 abbrev pub kind_of : Option Instr → Mode → AccessKind
+kind_of instr mode.Read = Reads
 kind_of instr mode.Write = cond (ends_lives instr) Ends Writes
-kind_of instr _ = Reads
+kind_of instr mode.Add = Writes
 
 abbrev pub kind_number : AccessKind → ℕ
 kind_number Reads = 0
 kind_number Writes = 1
 kind_number Ends = 2
 
--- where a worker stands before a step's access: the line of its next instruction, and the kind of the access
+-- where a worker stands before a step's access: the line of its next instruction, and the kind of the access. A step
+-- that begins a task accesses no variable
 abbrev pub place_at : Raw → State → Label → Access → Place
 place_at program s l a = record {
   line = line_in program (control_at s l.worker);

@@ -56,6 +56,17 @@ pub struct FoundFault {
     pub met: Met,
 }
 
+/// How the access of a variable by a step is atomic.
+#[derive(Clone, Copy)]
+pub enum Atomicity {
+    /// It is not.
+    Plain,
+    /// It is that of an `atomic`, which reads, writes or updates.
+    Atomic,
+    /// It is a reduction's update of the original variable, which is atomic with others of its kind alone.
+    Reduction,
+}
+
 /// How a step accesses a variable.
 #[derive(Clone, Copy, PartialEq, Eq)]
 pub enum AccessKind {
@@ -124,11 +135,11 @@ pub struct FoundRace {
 pub enum Verdict {
     /// It is: all schedules were looked at.
     Complete,
-    /// There are at least as many states as may be stored.
+    /// There are more states than may be stored.
     NotComplete,
-    /// Steps are limited, and that limit was met.
+    /// As many steps were made as may be.
     Stopped,
-    /// There was no memory to go on.
+    /// There was no memory to go on, or 2^62 things were done. No clause says that it was so.
     OutOfMemory,
 }
 
@@ -148,7 +159,11 @@ pub struct Explored {
     pub faults: Seq<FoundFault>,
     pub races: Seq<FoundRace>,
     pub verdict: Verdict,
-    /// How many states were stored: that many different ones are reached at least.
+    /// Whether it was seen that a run comes to a state and back to it. Where it was not seen, some may do so all the
+    /// same.
+    pub goes_round: bool,
+    /// How many states were stored, the start among them: that many different ones are reached at least. Where there
+    /// are more than may be stored, it is one more than that.
     pub states: u64,
     /// How many steps were made.
     pub steps: u64,

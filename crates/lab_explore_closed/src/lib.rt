@@ -15,6 +15,6 @@ pub mod found;
 pub mod laws;
 
 pub use found::{
-    AccessKind, Ending, Explored, FoundEnd, FoundFault, FoundRace, Limits, Met, Pair, Place, Racer,
-    Verdict, Wait,
+    AccessKind, Atomicity, Ending, Explored, FoundEnd, FoundFault, FoundRace, Limits, Met, Pair,
+    Place, Racer, Verdict, Wait,
 };

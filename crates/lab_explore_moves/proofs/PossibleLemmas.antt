@@ -48,6 +48,7 @@ each_with m l (Some xs) e own =
       possible = was_possible (state_in m) d.footprint d.outcome xs e;
       line = refl;
       instruction = refl;
+      atomicity = refl;
       accesses = was_footprint (state_in m) d.footprint d.outcome xs e;
     }) (All-nil (IsPossible m))
 

@@ -8,7 +8,7 @@ use Rattle.om_task.specs.Rules.{line_in}
 use Rattle.om_undo.specs.Machines.{MachineView, rules_for, state_in}
 use Rattle.om_undo.specs.PlannedSteps.{touched_if_made}
 use Rattle.lab_explore_closed.specs.Endings.{control_at}
-use Rattle.lab_explore_closed.specs.Races.{instruction_of}
+use Rattle.lab_explore_closed.specs.Races.{atomicity_of, instruction_of}
 use Rattle.lab_explore_moves.specs.declared.possible.PossibleStep.{PossibleStep}
 
 abbrev pub label_of_possible : PossibleStep → Label
@@ -21,6 +21,7 @@ pub record IsPossible (m : MachineView) (p : PossibleStep) : Type 0 where
   pub line : p.line ≡ line_in m.program (control_at (state_in m) p.label.worker)
   pub instruction : p.instruction
       ≡ instruction_of m.program (control_at (state_in m) p.label.worker) p.label.choice
+  pub atomicity : p.atomicity ≡ atomicity_of m.program (control_at (state_in m) p.label.worker) p.label.choice
   pub accesses : p.accesses ≡ (step_at (rules_for m) (state_in m) p.label).footprint
 
 -- all steps that workers can make at a machine
@@ -38,6 +39,7 @@ possible_with m l (Some accesses) = record {
   label = l;
   line = line_in m.program (control_at (state_in m) l.worker);
   instruction = instruction_of m.program (control_at (state_in m) l.worker) l.choice;
+  atomicity = atomicity_of m.program (control_at (state_in m) l.worker) l.choice;
   accesses = accesses;
 } ∷ []
 

@@ -28,11 +28,11 @@ pub fn ending(alloc: Global, machine: &Machine) -> AllocResult<Ending>
     if !faults.is_empty() {
         return Ok(Ending::Faults(Seq::of(faults), output));
     }
-    if let Some(value) = value_in(machine.control(0)) {
-        return Ok(Ending::Ends(value, output));
-    }
     let waits = waits(alloc, machine)?;
-    Ok(Ending::Sticks(output, Seq::of(waits)))
+    match value_in(machine.control(0)) {
+        Some(value) if waits.is_empty() => Ok(Ending::Ends(value, output)),
+        _ => Ok(Ending::Sticks(output, Seq::of(waits))),
+    }
 }
 
 /// The faults that workers have met, by worker. Its only error is out of memory.

@@ -9,7 +9,9 @@ ghost use Rattle.lab_explore_closed.specs.Races.{instruction_in, instruction_of}
 ghost use Rattle.lab_explore_closed.specs.Runs.{AreOf};
 ghost use Rattle.lab_explore_moves.specs.Possible.{ArePossible, possible_by, possible_among};
 
+use crate::atomicity::atomicity_of;
 use crate::letters::letters;
+use lab_explore_closed::Atomicity;
 use om_code::{Instr, Program};
 use om_foot::{Access, Mode, Names, Obj};
 use om_memory::{Context, Control};
@@ -26,12 +28,13 @@ pub struct PossibleStep {
     pub line: u32,
     /// Its instruction; `None` where it begins a task.
     pub instruction: Option<Instr>,
+    /// How its access of a variable is atomic.
+    pub atomicity: Atomicity,
     /// What it touches, its worker's control first.
     pub accesses: Seq<Access>,
 }
 
-/// The steps that workers can make at a machine, each once: by worker, the next instruction first, then the starts of
-/// tasks by their names. Its only error is out of memory.
+/// The steps that workers can make at a machine. Its only error is out of memory.
 pub fn possible_steps(alloc: Global, machine: &Machine) -> AllocResult<Vec<PossibleStep>>
     ensures { IfOk result (λ v. ArePossible machine.now v.items) }
 {
@@ -74,6 +77,7 @@ fn push_possible(
         label: *letter,
         line: machine.line(letter.worker),
         instruction: instruction_of(machine, letter),
+        atomicity: atomicity_of(machine, letter),
         accesses,
     })?;
     Ok(())

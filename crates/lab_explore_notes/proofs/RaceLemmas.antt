@@ -6,7 +6,6 @@ use Rattle.std.specs.Prelude.{Contains}
 use Rattle.std.proofs.lemmas.Bool.Decides.{nat_tests, Decides-eqb}
 use Rattle.std.proofs.lemmas.List.Elements.{All-contains, Contains-append_right, Contains-append_cases}
 use Rattle.std.proofs.lemmas.List.Elements.{Contains-push_cases}
-use Rattle.om_code.specs.declared.instruction.Instr.{Instr}
 use Rattle.om_code.specs.declared.raw.Raw.{Raw}
 use Rattle.om_foot.specs.declared.footprint.Access.{Access}
 use Rattle.om_foot.specs.declared.footprint.Mode.{Mode}
@@ -21,20 +20,22 @@ use Rattle.om_state.specs.Rules.{next_state, step_at}
 use Rattle.om_state.specs.State.{State}
 use Rattle.om_undo.specs.Machines.{MachineView, rules_for, state_in}
 use Rattle.om_undo_history.specs.Runs.{label_of}
+use Rattle.lab_explore_closed.specs.declared.found.Atomicity.{Atomicity}
+use Rattle.lab_explore_closed.specs.declared.found.Atomicity.TheVariants.{Atomic, Plain, Reduction}
 use Rattle.lab_explore_closed.specs.declared.found.FoundRace.{FoundRace}
 use Rattle.lab_explore_closed.specs.declared.found.Pair.{Pair}
 use Rattle.lab_explore_closed.specs.declared.found.Place.{Place}
 use Rattle.lab_explore_closed.specs.declared.found.Racer.{Racer}
 use Rattle.lab_explore_closed.specs.Endings.{control_at}
 use Rattle.lab_explore_closed.specs.Explored.{IsPossibleRace, pair_of_found}
-use Rattle.lab_explore_closed.specs.Races.{IsRace, Accesses, is_data, is_update, is_reduction, are_atomic_together}
-use Rattle.lab_explore_closed.specs.Races.{instruction_of, kind_number, place_at, pair_of}
+use Rattle.lab_explore_closed.specs.Races.{IsRace, Accesses, is_data, is_atomic, is_combining, are_atomic_together}
+use Rattle.lab_explore_closed.specs.Races.{atomicity_of, kind_number, place_at, pair_of}
 use Rattle.lab_explore_closed.specs.Races.{pair_at, is_behind, racer_at}
 use Rattle.lab_explore_closed.specs.Runs.{Leads, IsEnd}
 use Rattle.lab_explore_moves.specs.declared.possible.PossibleStep.{PossibleStep}
 use Rattle.lab_explore_moves.specs.Possible.{IsPossible, ArePossible, label_of_possible}
 use Rattle.lab_explore_notes.specs.Notes.{AreRaces, Adds, IsOnWay, IsRaceNoted, AreConflictsNoted, AreMeetingsNoted}
-use Rattle.lab_explore_notes.specs.Notes.{AreNotedOf, AreAllNoted, can_race}
+use Rattle.lab_explore_notes.specs.Notes.{AreNotedOf, AreAllNoted, can_race, meet, are_racing}
 
 -- more races
 
@@ -62,30 +63,31 @@ steps_on m a b p qs adds h q at = meetings_on m a b p.label q.label p.accesses q
 
 -- two steps that can't race
 
-pub no_race : (m : MachineView) (p q : PossibleStep) (x y : Access) → IsPossible m p → IsPossible m q
-    → can_race p q ≡ false → ¬ IsRace m.program m.workers (state_in m) p.label q.label x y
-no_race m p q x y p_is q_is h race =
-    go (nat_eq p.label.worker q.label.worker) (are_atomic_together p.instruction q.instruction) refl refl h
+pub no_race : (m : MachineView) (p q : PossibleStep) (x y : Access) → can_race p q ≡ false
+    → ¬ IsRace m.program m.workers (state_in m) p.label q.label x y
+no_race m p q x y h race = go (nat_eq p.label.worker q.label.worker) refl h
   where
-    go : (a b : Bool) → nat_eq p.label.worker q.label.worker ≡ a
-        → are_atomic_together p.instruction q.instruction ≡ b → not a && not b ≡ false → ⊥
-    go true b e f g = race.others ((Decides-eqb p.label.worker q.label.worker).0 e)
-    go false true e f g =
-        let no : true ≡ false =
-        sym f ∙ (λ i. are_atomic_together (p_is.instruction i) (q_is.instruction i)) ∙ race.plain in cc
-    go false false e f g = cc
+    go : (a : Bool) → nat_eq p.label.worker q.label.worker ≡ a → not a ≡ false → ⊥
+    go true e f = race.others ((Decides-eqb p.label.worker q.label.worker).0 e)
+    go false e f = cc
+
+-- two accesses that race, and two that don't
+
+atomic_at : (m : MachineView) (p q : PossibleStep) (x y : Access) → IsPossible m p → IsPossible m q
+    → are_atomic_together p.atomicity x.mode q.atomicity y.mode
+    ≡ are_atomic_together (atomicity_of m.program (control_at (state_in m) p.label.worker) p.label.choice) x.mode
+    (atomicity_of m.program (control_at (state_in m) q.label.worker) q.label.choice) y.mode
+atomic_at m p q x y p_is q_is = λ i. are_atomic_together (p_is.atomicity i) x.mode (q_is.atomicity i) y.mode
 
 pub can_be : (m : MachineView) (p q : PossibleStep) (x y : Access) → IsPossible m p → IsPossible m q
-    → can_race p q ≡ true → Contains p.accesses x → Contains q.accesses y
-    → is_data x.object && (obj_eq x.object y.object && modes_conflict x.mode y.mode) ≡ true
+    → can_race p q ≡ true → Contains p.accesses x → Contains q.accesses y → are_racing p x q y ≡ true
     → IsRace m.program m.workers (state_in m) p.label q.label x y
 can_be m p q x y p_is q_is can x_at y_at h =
-    let t = two_true (not (nat_eq p.label.worker q.label.worker))
-    (not (are_atomic_together p.instruction q.instruction)) can in
-    let u = two_true (is_data x.object) (obj_eq x.object y.object && modes_conflict x.mode y.mode) h in
+    let t = two_true (meet x y) (not (are_atomic_together p.atomicity x.mode q.atomicity y.mode)) h in
+    let u = two_true (is_data x.object) (obj_eq x.object y.object && modes_conflict x.mode y.mode) t.0 in
     let v = two_true (obj_eq x.object y.object) (modes_conflict x.mode y.mode) u.1 in
     record {
-      others = λ is. same_not (nat_eq p.label.worker q.label.worker) t.0 ((Decides-eqb p.label.worker
+      others = λ is. same_not (nat_eq p.label.worker q.label.worker) can ((Decides-eqb p.label.worker
           q.label.worker).1 is);
       first = record {
         possible = p_is.possible;
@@ -98,8 +100,8 @@ can_be m p q x y p_is q_is can x_at y_at h =
       same = obj_eq-true x.object y.object v.0;
       variable = u.0;
       conflict = v.1;
-      plain = (λ i. are_atomic_together (sym p_is.instruction i) (sym q_is.instruction i))
-          ∙ not_true (are_atomic_together p.instruction q.instruction) t.1;
+      plain = sym (atomic_at m p q x y p_is q_is)
+          ∙ not_true (are_atomic_together p.atomicity x.mode q.atomicity y.mode) t.1;
     }
   where
     same_not : (b : Bool) → not b ≡ true → b ≡ true → ⊥
@@ -110,14 +112,15 @@ can_be m p q x y p_is q_is can x_at y_at h =
     not_true true h = cc
     not_true false h = refl
 
-pub no_conflict : (m : MachineView) (l k : Label) (x y : Access)
-    → is_data x.object && (obj_eq x.object y.object && modes_conflict x.mode y.mode) ≡ false
-    → ¬ IsRace m.program m.workers (state_in m) l k x y
-no_conflict m l k x y h race =
-    let yes : is_data x.object && (obj_eq x.object y.object && modes_conflict x.mode y.mode) ≡ true =
-    both_true (is_data x.object) (obj_eq x.object y.object && modes_conflict x.mode y.mode) race.variable
+pub no_conflict : (m : MachineView) (p q : PossibleStep) (x y : Access) → IsPossible m p → IsPossible m q
+    → are_racing p x q y ≡ false → ¬ IsRace m.program m.workers (state_in m) p.label q.label x y
+no_conflict m p q x y p_is q_is h race =
+    let yes : are_racing p x q y ≡ true =
+    both_true (meet x y) (not (are_atomic_together p.atomicity x.mode q.atomicity y.mode))
+    (both_true (is_data x.object) (obj_eq x.object y.object && modes_conflict x.mode y.mode) race.variable
     (both_true (obj_eq x.object y.object) (modes_conflict x.mode y.mode)
-    (subst (λ q. obj_eq x.object q ≡ true) race.same (obj_eq-same x.object)) race.conflict) in
+    (subst (λ q. obj_eq x.object q ≡ true) race.same (obj_eq-same x.object)) race.conflict))
+    (ap not (atomic_at m p q x y p_is q_is ∙ race.plain)) in
     let no : true ≡ false = sym yes ∙ h in bad no
   where
     bad : true ≡ false → ⊥
@@ -173,9 +176,9 @@ and_turned true false = refl
 and_turned false true = refl
 and_turned false false = refl
 
-atomic_turned : (a b : Option Instr) → are_atomic_together a b ≡ are_atomic_together b a
-atomic_turned a b =
-    λ i. and_turned (is_update a) (is_update b) i || and_turned (is_reduction a) (is_reduction b) i
+atomic_turned : (a b : Atomicity) (m n : Mode) → are_atomic_together a m b n ≡ are_atomic_together b n a m
+atomic_turned a b m n =
+    λ i. and_turned (is_atomic a) (is_atomic b) i || and_turned (is_combining a m) (is_combining b n) i
 
 turned : (program : Raw) (workers : ℕ) (s : State) (a b : Label) (x y : Access) → IsRace program workers s a b x y
     → IsRace program workers s b a y x
@@ -186,8 +189,8 @@ turned program workers s a b x y h = record {
   same = sym h.same;
   variable = subst (λ q. is_data q ≡ true) h.same h.variable;
   conflict = modes_turned y.mode x.mode ∙ h.conflict;
-  plain = atomic_turned (instruction_of program (control_at s b.worker) b.choice)
-      (instruction_of program (control_at s a.worker) a.choice) ∙ h.plain;
+  plain = atomic_turned (atomicity_of program (control_at s b.worker) b.choice)
+      (atomicity_of program (control_at s a.worker) a.choice) y.mode x.mode ∙ h.plain;
 }
 
 not_both : (a b c d : ℕ) → (nat_lt b a || (nat_eq b a && nat_lt d c)) ≡ true

@@ -2,6 +2,7 @@
 use Rattle.std.specs.Prelude.{◌≡◌, ℕ, ◌<◌, Bool, false, not, nat_eq, ◌&&◌, List, map, All, Contains}
 use Rattle.om_code.specs.declared.raw.Raw.{Raw}
 use Rattle.om_foot.specs.declared.footprint.Access.{Access}
+use Rattle.om_foot.specs.Footprint.{obj_eq, modes_conflict}
 use Rattle.om_state.specs.declared.step.Label.{Label}
 use Rattle.om_state.specs.State.{State}
 use Rattle.om_task.specs.Rules.{rules_of}
@@ -15,7 +16,7 @@ use Rattle.lab_explore_closed.specs.Endings.{IsMet, ending_at}
 use Rattle.lab_explore_closed.specs.Explored.{IsPossibleEnd, IsPossibleFault, IsPossibleRace}
 use Rattle.lab_explore_closed.specs.Explored.{ending_of_found, met_of_found, pair_of_found}
 use Rattle.lab_explore_closed.specs.Lists.{AllDifferent}
-use Rattle.lab_explore_closed.specs.Races.{IsRace, pair_at, place_at, is_behind, are_atomic_together}
+use Rattle.lab_explore_closed.specs.Races.{IsRace, pair_at, place_at, is_behind, is_data, are_atomic_together}
 use Rattle.lab_explore_closed.specs.Runs.{Leads, IsEnd}
 use Rattle.lab_explore_moves.specs.declared.possible.PossibleStep.{PossibleStep}
 use Rattle.lab_explore_notes.specs.declared.notes.Notes as notes
@@ -83,9 +84,17 @@ pub record Adds (m : MachineView) (old new : List FoundRace) : Type 0 where
   pub right : AreRaces m.program m.workers new
   pub keeps : Keeps pair_of_found old new
 
--- whether two steps are of different workers, and are not atomic together
+-- whether two steps are of different workers
 abbrev pub can_race : PossibleStep → PossibleStep → Bool
-can_race p q = not (nat_eq p.label.worker q.label.worker) && not (are_atomic_together p.instruction q.instruction)
+can_race p q = not (nat_eq p.label.worker q.label.worker)
+
+-- whether two accesses are of one variable, and one of them writes it
+abbrev pub meet : Access → Access → Bool
+meet x y = is_data x.object && (obj_eq x.object y.object && modes_conflict x.mode y.mode)
+
+-- whether accesses of two steps meet, and are not atomic together
+abbrev pub are_racing : PossibleStep → Access → PossibleStep → Access → Bool
+are_racing p x q y = meet x y && not (are_atomic_together p.atomicity x.mode q.atomicity y.mode)
 
 -- each race of a step with one of these is noted
 abbrev pub AreNotedOf : MachineView → List FoundRace → PossibleStep → List PossibleStep → Type 0

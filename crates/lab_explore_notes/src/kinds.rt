@@ -1,10 +1,10 @@
 //! What an instruction does to a variable that it accesses.
 
 ghost use Rattle.std.specs.Prelude.{◌≡◌};
-ghost use Rattle.lab_explore_closed.specs.Races.{is_data, is_update, is_reduction, are_atomic_together, ends_lives, kind_of, is_behind};
+ghost use Rattle.lab_explore_closed.specs.Races.{is_data, is_atomic, is_combining, are_atomic_together, ends_lives, kind_of, is_behind};
 
-use lab_explore_closed::{AccessKind, Place};
-use om_code::{Function, Instr, Serial, Sharing, Task, Team};
+use lab_explore_closed::{AccessKind, Atomicity, Place};
+use om_code::{Function, Instr, Serial, Task, Team};
 use om_foot::{Mode, Obj};
 
 /// Whether an object is a cell of a variable.
@@ -27,28 +27,35 @@ pub(crate) fn is_data(object: &Obj) -> bool
     }
 }
 
-// Whether an instruction is an update of `atomic`.
-fn is_update(instruction: Option<Instr>) -> bool
-    ensures { result ≡ is_update instruction }
+// Whether an access is one of `atomic`.
+fn is_atomic(atomicity: Atomicity) -> bool
+    ensures { result ≡ is_atomic atomicity }
 {
-    matches!(
-        instruction,
-        Some(Instr::Serial(Serial::Atomic { .. } | Serial::AtomicElement { .. }))
-    )
+    matches!(atomicity, Atomicity::Atomic)
 }
 
-// Whether an instruction is a reduction's update of the original variable.
-fn is_reduction(instruction: Option<Instr>) -> bool
-    ensures { result ≡ is_reduction instruction }
+// Whether an access combines: a reduction writes the original, and reads its copy as any other instruction does.
+fn is_combining(atomicity: Atomicity, mode: Mode) -> bool
+    ensures { result ≡ is_combining atomicity mode }
 {
-    matches!(instruction, Some(Instr::Sharing(Sharing::Reduce { .. })))
+    match atomicity {
+        Atomicity::Reduction => matches!(mode, Mode::Write),
+        Atomicity::Plain => false,
+        Atomicity::Atomic => false,
+    }
 }
 
-/// Whether accesses of one variable by two instructions are ordered by being atomic.
-pub(crate) fn are_atomic_together(first: Option<Instr>, second: Option<Instr>) -> bool
-    ensures { result ≡ are_atomic_together first second }
+/// Whether accesses of one variable, in these modes, are ordered by being atomic.
+pub(crate) fn are_atomic_together(
+    first: Atomicity,
+    mode: Mode,
+    second: Atomicity,
+    other: Mode,
+) -> bool
+    ensures { result ≡ are_atomic_together first mode second other }
 {
-    (is_update(first) && is_update(second)) || (is_reduction(first) && is_reduction(second))
+    (is_atomic(first) && is_atomic(second))
+        || (is_combining(first, mode) && is_combining(second, other))
 }
 
 // Whether an instruction ends the lives of variables, or makes one unset.
@@ -71,7 +78,7 @@ pub(crate) fn kind_of(instruction: Option<Instr>, mode: Mode) -> AccessKind
     match mode {
         Mode::Write => write_of(instruction),
         Mode::Read => AccessKind::Reads,
-        Mode::Add => AccessKind::Reads,
+        Mode::Add => AccessKind::Writes,
     }
 }
 

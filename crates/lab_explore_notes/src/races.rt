@@ -1,13 +1,12 @@
 //! Races, each pair of accesses once.
 
-ghost use Rattle.std.specs.Prelude.{◌≡◌, ◌&&◌, false, true, map, OnOk, IfOk, Contains, All};
-ghost use Rattle.om_foot.specs.Footprint.{obj_eq, modes_conflict};
+ghost use Rattle.std.specs.Prelude.{◌≡◌, false, true, map, OnOk, IfOk, Contains, All};
 ghost use Rattle.om_undo.specs.Machines.{state_in};
 ghost use Rattle.lab_explore_closed.specs.Explored.{pair_of_found};
-ghost use Rattle.lab_explore_closed.specs.Races.{IsRace, is_data, place_at, pair_at, is_behind, racer_at};
+ghost use Rattle.lab_explore_closed.specs.Races.{IsRace, are_atomic_together, place_at, pair_at, is_behind, racer_at};
 ghost use Rattle.lab_explore_moves.specs.Possible.{IsPossible};
 ghost use Rattle.lab_explore_notes.specs.Same.{same_pair, is_among};
-ghost use Rattle.lab_explore_notes.specs.Notes.{AreRaces, Adds, AreAllNoted, AreNotedOf, AreConflictsNoted, AreMeetingsNoted, IsOnWay, IsRaceNoted, can_race};
+ghost use Rattle.lab_explore_notes.specs.Notes.{AreRaces, Adds, AreAllNoted, AreNotedOf, AreConflictsNoted, AreMeetingsNoted, IsOnWay, IsRaceNoted, are_racing, can_race, meet};
 
 use crate::kinds::{are_atomic_together, is_behind, is_data, kind_of};
 use crate::same::is_same_pair;
@@ -83,12 +82,11 @@ fn note_pair(
     Ok(())
 }
 
-// Whether two steps are of different workers, and are not atomic together.
+// Whether two steps are of different workers.
 fn can_race(step: &PossibleStep, other: &PossibleStep) -> bool
     ensures { result ≡ can_race step.now other.now }
 {
     step.label.worker != other.label.worker
-        && !are_atomic_together(step.instruction, other.instruction)
 }
 
 // A step that a worker can make, and an access of it.
@@ -98,7 +96,7 @@ struct Stand<'a> {
     access: &'a Access,
 }
 
-// Notes each race of two steps that are not atomic together.
+// Notes each race of two steps of different workers.
 fn note_meetings(
     alloc: Global,
     machine: &Machine,
@@ -168,17 +166,38 @@ fn note_conflict(
     ensures noted { OnOk result (IsRaceNoted machine.now races.new first.entry.step.now.label
         second.entry.step.now.label first.entry.access.now second.entry.access.now) }
 {
-    if !meet(first.access, second.access) {
+    if !are_racing(first, second) {
         return Ok(());
     }
     note_race(alloc, machine, first, second, races)?;
     Ok(())
 }
 
+// Whether accesses of two steps are of one variable, one of them writes it, and they are not atomic together.
+fn are_racing(first: Stand<'_>, second: Stand<'_>) -> bool
+    ensures { result ≡ are_racing first.entry.step.now first.entry.access.now
+        second.entry.step.now second.entry.access.now }
+{
+    meet(first.access, second.access) && !are_atomic(first, second)
+}
+
+// Whether accesses of two steps are atomic together.
+fn are_atomic(first: Stand<'_>, second: Stand<'_>) -> bool
+    ensures { result ≡ are_atomic_together
+        first.entry.step.now.atomicity first.entry.access.now.mode
+        second.entry.step.now.atomicity second.entry.access.now.mode }
+{
+    are_atomic_together(
+        first.step.atomicity,
+        first.access.mode,
+        second.step.atomicity,
+        second.access.mode,
+    )
+}
+
 // Whether two accesses are of one variable, and one of them writes it.
 fn meet(first: &Access, second: &Access) -> bool
-    ensures { result ≡ is_data first.now.object && (obj_eq first.now.object second.now.object
-        && modes_conflict first.now.mode second.now.mode) }
+    ensures { result ≡ meet first.now second.now }
 {
     is_data(&first.object) && is_in_conflict(first, second)
 }

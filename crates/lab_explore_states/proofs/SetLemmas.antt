@@ -171,6 +171,36 @@ pub states_are : (xs : List Standing) → map state_in (map machine_of xs) ≡ m
 states_are [] = refl
 states_are (x ∷ xs) = ap (λ ss. state_of x ∷ ss) (states_are xs)
 
+-- where a set stood before
+
+module _ (apart : RowsTellApart) (start : State) (t : TablesView) (here : Standing) (by_start : AreBy start t)
+    (stands : IsStanding start t here) where
+  stood : (xs : List Standing) (x : Standing) → AllByRecursion (IsStanding start t) xs → Contains xs x
+      → cut_of x ≡ cut_of here → Contains (map state_of (reverse xs)) (state_of here)
+  stood [] x all at is = absurd (omega (arith, at.1))
+  stood (y ∷ ys) x all at is =
+      let turned : map state_of (reverse (y ∷ ys)) ≡ map state_of (reverse ys) ++ state_of y ∷ [] =
+      ap (map state_of) (reverse-append (y ∷ []) ys) ∙ map_pushed state_of (reverse ys) y in
+      subst (λ ss. Contains ss (state_of here)) (sym turned)
+      (⊎_elim
+      (λ same. subst (λ s. Contains (map state_of (reverse ys) ++ state_of y ∷ []) s)
+      ((apart t start (state_of y) (state_of here) y.row here.row by_start.tables all.0 stands).0
+      (ap cut_of same ∙ is)) (Contains-push (map state_of (reverse ys)) (state_of y)))
+      (λ rest. Contains-append_left (map state_of (reverse ys)) (state_of y ∷ []) (state_of here)
+      (stood ys x all.1 rest is))
+      (⊎_elim
+      (λ one. ⊎_elim (λ none. absurd (omega (arith, none.1))) (λ is. inl is) (Contains-push_cases [] y x one))
+      (λ rest. inr rest) (Contains-append_cases (y ∷ []) ys x at)))
+
+-- it stood at a state where a row is that of its row now
+pub stood_there : (apart : RowsTellApart) (start : State) (t : TablesView) (here : Standing) (past : List Standing)
+    (rows : List (List ℕ)) (states : List Standing) → AreKept start t here past rows states
+    → (x : Standing) → Contains past x → cut_of x ≡ cut_of here
+    → Contains (map state_in (map machine_of (reverse past))) (state_of here)
+stood_there apart start t here past rows states kept x at is =
+    subst (λ ss. Contains ss (state_of here)) (sym (states_are (reverse past)))
+    (stood apart start t here kept.by_start kept.stands past x kept.stood at is)
+
 -- what is put in
 
 module _ (apart : RowsTellApart) (start : State) (t : TablesView) (here : Standing) (past : List Standing)

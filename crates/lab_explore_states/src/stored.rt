@@ -1,13 +1,14 @@
 //! A set of states.
 
-ghost use Rattle.std.specs.Prelude.{◌≡◌, ◌∷◌, ◌<◌, ◌^◌, true, Some, List, IfOk, OnOk, OnErr, length};
+ghost use Rattle.std.specs.Prelude.{◌≡◌, ◌∷◌, ◌<◌, ◌^◌, true, Some, List, Contains, IfOk, OnOk, OnErr, length};
 ghost use Rattle.om_state.specs.State.{State};
 ghost use Rattle.om_task.specs.Rules.{start_of};
 ghost use Rattle.om_undo.specs.Machines.{state_in, step_reply, with_step};
 ghost use Rattle.om_undo.specs.PlannedSteps.{is_made, touched_if_made};
 ghost use Rattle.lab_explore_rows.specs.Tables.{Extends};
 ghost use Rattle.lab_explore_states.specs.Sets.{at_the_start, gone_to, GoesBack, Inserts, StandsAt, seen};
-ghost use Rattle.lab_explore_states.specs.Standings.{IsSame, IsStanding, PutsIn, standings, state_of};
+ghost use Rattle.lab_explore_states.specs.declared.standing.Standing.{Standing};
+ghost use Rattle.lab_explore_states.specs.Standings.{IsSame, IsStanding, PutsIn, cut_of, standings, state_of};
 ghost use Rattle.lab_explore_states.specs.Touched.{AreBy, ArePlaced, StaysBut, objects_of, start_at};
 
 use crate::standing::Standing;
@@ -38,6 +39,8 @@ pub struct Stored {
     rows: WordTable,
     // Where it stood when it put them in.
     states: Vec<Snapshot<Standing>>,
+    // How often it had gone on when it put them in, by the numbers of their rows.
+    depths: Vec<u32>,
 }
 
 // By hand: other crates call this, and do not prove anew how each part is dropped.
@@ -50,12 +53,14 @@ impl Drop for Stored {
             past,
             rows,
             states,
+            depths,
         } = self;
         drop(tables);
         drop(here);
         drop(past);
         drop(rows);
         drop(states);
+        drop(depths);
     }
 }
 
@@ -180,6 +185,23 @@ fn put_in(
     Ok(true)
 }
 
+// How often a set had gone on when it put in a row; `None` where it did not.
+fn depth_of(rows: &WordTable, depths: &[u32], row: &[u32]) -> Option<u32> {
+    let number = rows.number(row)?;
+    depths.get(number as usize).copied()
+}
+
+// Whether a set had a row, without the zeros at its end, where it had gone on so often.
+fn is_at(past: &[Standing], depth: usize, row: &[u32]) -> bool
+    ensures { result ≡ true
+        → (before : Standing) × Contains past.now before × (cut_of before ≡ row.now) }
+{
+    match past.get(depth) {
+        Some(before) => before.row.cut() == row,
+        None => false,
+    }
+}
+
 impl Stored {
     /// A set that stands at the start, where a machine is, with nothing in it. It takes no memory.
     pub fn new(alloc: Global, machine: &Machine) -> Stored
@@ -196,6 +218,7 @@ impl Stored {
             past: Vec::new(alloc),
             rows: WordTable::new(alloc),
             states: Vec::new(alloc),
+            depths: Vec::new(alloc),
         }
     }
 
@@ -246,7 +269,24 @@ impl Stored {
         ensures unchanged_on_error { OnErr result (self.new ≡ self.old) }
     {
         rows_tell_apart();
+        self.depths.reserve(1)?;
         let added = put_in(&mut self.rows, &mut self.states, alloc, &self.here)?;
+        if added {
+            self.depths.push_reserved(self.past.len() as u32);
+        }
         Ok(added)
+    }
+
+    /// Whether it has stood before at the state where it stands, and has not gone back since. It looks only at where it
+    /// stood when this state was put in: so `false` promises nothing.
+    pub fn is_round(&self) -> bool
+        ensures { result ≡ true → Contains (seen self.now).past (seen self.now).at }
+    {
+        rows_tell_apart();
+        let row = self.here.row.cut();
+        match depth_of(&self.rows, self.depths.as_slice(), row) {
+            Some(depth) => is_at(self.past.as_slice(), depth as usize, row),
+            None => false,
+        }
     }
 }

@@ -98,6 +98,7 @@ side_by_side_in tree picked raw (b ∷ sites) (body ∷ bodies) stand made =
         code = one.code raw.picks stand;
         slots = one.slots;
         given = one.given;
+        atomic = one.atomic;
         names = record {
           scopes = one.names.scopes;
           stand = one.names.stand raw.picks stand;

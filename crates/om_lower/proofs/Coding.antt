@@ -24,11 +24,12 @@ use Rattle.om_lower.proofs.FunctionBodies.{next_numbers, pushed, stand_behind, s
 use Rattle.om_scope_tree.specs.declared.resolved.Capture.{Capture}
 use Rattle.om_scope_tree.specs.ResolvedTree.{ResolvedFunctionTree, ResolvedTree}
 use Rattle.om_scope_tree.specs.Uses.{is_main_function}
+use Rattle.om_lower_rules.specs.AtomicPlaces.{atomic_places}
 use Rattle.om_lower_rules.specs.Bodies.{BodySite, Numbers, behind_function, behind_functions, bodies_from, first_numbers}
 use Rattle.om_lower_rules.specs.Bodies.{function_bodies, variables_of}
 use Rattle.om_lower_rules.specs.Code.{captures_of, given_of, slots_of}
 use Rattle.om_lower_rules.specs.Scopes.{names_with}
-use Rattle.om_lower_rules.specs.Mentions.{extents_of}
+use Rattle.om_lower_rules.specs.Mentions.{atomic_lines, extents_of}
 use Rattle.om_lower_rules.specs.Slots.{Extent, cells_in, slot_with}
 use Rattle.om_lower_rules.specs.Numbered.{Numbered, numbered_in}
 
@@ -70,14 +71,17 @@ over_code tree b fits = long fits.0 fits.1 fits.2 fits.3
 
 -- or none does
 pub made_body : (tree : ResolvedTree) (b : BodySite) (made : Emitted) (slots : List Slot)
-    (given : List ℕ) (names : raws.Names)
+    (given atomic : List ℕ) (names : raws.Names)
     → FitsFrame (variables_of b) (slots_of b) (Some slots) → FitsCode tree b (Some made)
-    → given ≡ given_of b → names ≡ names_with b.function.name (variables_of b) b.outer made.scopes.items
-    → IsMade tree made.lists.items b (record { code = made.code; slots = slots; given = given; names = names })
-made_body tree b made slots given names frame fits same named = record {
+    → given ≡ given_of b → atomic ≡ atomic_places (atomic_lines tree) made.code
+    → names ≡ names_with b.function.name (variables_of b) b.outer made.scopes.items
+    → IsMade tree made.lists.items b
+    (record { code = made.code; slots = slots; given = given; names = names; atomic = atomic })
+made_body tree b made slots given atomic names frame fits same accesses named = record {
   code = fits.0;
   slots = frame.0;
   given = same;
+  atomic = accesses;
   names = record { scopes = made.scopes.items; stand = fits.3; named = named };
   room = record { slots = frame.1; cells = frame.2 };
   short = fits.1;

@@ -301,7 +301,7 @@ construct_named names l constructs.Masked clauses s body label done at p m m2 q 
     (at label, (x.0, x.1, (x.2.0, (m2, subst (λ k. body k m2) (sym x.2.1) y, z))))
 construct_named names l (constructs.Critical name) clauses s body label done at p m m2 q x y z =
     (x.0, (x.1.0, (m2, subst (λ k. body k m2) (sym x.1.1) y, z)))
-construct_named names l constructs.Atomic clauses s body label done at p m m2 q x y z = absurd x
+construct_named names l (constructs.Atomic access) clauses s body label done at p m m2 q x y z = absurd x
 construct_named names l constructs.Taskgroup clauses s body label done at p m m2 q x y z =
     (x.0, (m2, subst (λ k. body k m2) (sym x.1) y, z))
 

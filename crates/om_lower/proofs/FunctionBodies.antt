@@ -183,6 +183,7 @@ wider_made tree some all (b ∷ sites) (body ∷ bodies) wider made =
         code = λ picks stand. one.code picks (wider picks stand);
         slots = one.slots;
         given = one.given;
+        atomic = one.atomic;
         names = record {
           scopes = one.names.scopes;
           stand = λ picks stand. one.names.stand picks (wider picks stand);

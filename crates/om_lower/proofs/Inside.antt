@@ -4,6 +4,7 @@ use Rattle.std.proofs.Common.{add-one, refl, sym, ap, ◌∙◌, subst, arith}
 use Rattle.std.specs.Prelude.{IfSome, is_some}
 use Rattle.om_lower_emit.specs.declared.spot.Spot.{Spot}
 use Rattle.om_lower_emit.specs.Stretches.{IsNoAtomic}
+use Rattle.om_scope_tree.specs.declared.resolved.AtomicAccess.{AtomicAccess}
 use Rattle.om_scope_tree.specs.declared.resolved.ConstructKind.{ConstructKind}
 use Rattle.om_scope_tree.specs.declared.resolved.ConstructKind.TheVariants as constructs
 use Rattle.om_scope_tree.specs.declared.resolved.ResolvedPart.{ResolvedPart}
@@ -128,7 +129,7 @@ kind_code : (breaks continues : Bool) (at : _) (kind : ConstructKind) (clauses :
 kind_code breaks continues at (constructs.Single nowait) clauses s h code = code
 kind_code breaks continues at constructs.Masked clauses s h code = code.1
 kind_code breaks continues at (constructs.Critical name) clauses s h code = code
-kind_code breaks continues at constructs.Atomic clauses s h code = absurd h
+kind_code breaks continues at (constructs.Atomic access) clauses s h code = absurd h
 kind_code breaks continues at constructs.Taskgroup clauses s h code = code
 
 pub construct_code : (breaks continues : Bool) (tree : ResolvedStatement) (at : _) (kind : ConstructKind)
@@ -171,9 +172,10 @@ assignment_ends n (trees.Expression at e) code = refl
 assignment_ends n _ code = absurd code
 
 pub atomic_ends : (breaks continues : Bool) (n : Numbers) (tree : ResolvedStatement) (at : _) (kind : ConstructKind)
-    (clauses : _) (s : _) → tree ≡ v.Construct at kind clauses s → kind ≡ constructs.Atomic
+    (access : AtomicAccess) (clauses : _) (s : _) → tree ≡ v.Construct at kind clauses s
+    → kind ≡ constructs.Atomic access
     → StatementHasCode breaks continues (view.statement tree) → n ≡ behind n (view.statement tree)
-atomic_ends breaks continues n tree at kind clauses s is plain code =
+atomic_ends breaks continues n tree at kind access clauses s is plain code =
     let seen = ap view.statement is ∙ view_construct at kind clauses s in
     let assigned : AssignmentHasCode (view.statement s.value) =
     subst (λ k. StatementHasCode breaks continues (trees.Construct at k (map view.clause clauses.items)

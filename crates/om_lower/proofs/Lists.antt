@@ -10,6 +10,7 @@ use Rattle.om_scope_tree.specs.ResolvedTree as trees
 use Rattle.om_scope_tree.specs.ResolvedTree.{ResolvedStatementTree, ResolvedStatementsTree, NoStatements, Statement}
 use Rattle.om_scope_tree.specs.ResolvedView as view
 use Rattle.om_lower_emit.specs.Stretches.{IsNoAtomic}
+use Rattle.om_scope_tree.specs.declared.resolved.AtomicAccess.{AtomicAccess}
 use Rattle.om_scope_tree.specs.declared.resolved.ConstructKind.{ConstructKind}
 use Rattle.om_scope_tree.specs.declared.resolved.ConstructKind.TheVariants as constructs
 use Rattle.om_lower_rules.specs.Bodies.{Numbers, behind, behind_all}
@@ -118,9 +119,10 @@ numbers_are names n m s jumps a b e h = subst (λ z. EmitsStatement names z s ju
 pub nothing_on_error : {T E : Type 0} (r : Result T E) (P : T → Type 0) (e : E) → r ≡ Err e → IfOk r P
 nothing_on_error r P e is = subst (λ found. IfOk found P) (sym is) tt
 
-pub no_atomic : (kind : ConstructKind) → (kind ≡ constructs.Atomic → ⊥) → IsNoAtomic kind
+pub no_atomic : (kind : ConstructKind) → ((access : AtomicAccess) → kind ≡ constructs.Atomic access → ⊥)
+    → IsNoAtomic kind
 no_atomic (constructs.Single nowait) h = search
 no_atomic constructs.Masked h = search
 no_atomic (constructs.Critical name) h = search
-no_atomic constructs.Atomic h = h refl
+no_atomic (constructs.Atomic access) h = h access refl
 no_atomic constructs.Taskgroup h = search

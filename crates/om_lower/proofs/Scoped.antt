@@ -166,7 +166,7 @@ module _ (names : Numbered) where
   construct_ended l (constructs.Single nowait) label done at p q r = r.1
   construct_ended l constructs.Masked label done at p q r = sym r.1.1
   construct_ended l (constructs.Critical name) label done at p q r = sym r.1
-  construct_ended l constructs.Atomic label done at p q r = absurd r
+  construct_ended l (constructs.Atomic access) label done at p q r = absurd r
   construct_ended l constructs.Taskgroup label done at p q r = sym r.1
 
   construct_is : (l : ℕ) (kind : ConstructKind) (clauses : List ResolvedClauseTree) (s : ResolvedStatementTree)
@@ -177,7 +177,7 @@ module _ (names : Numbered) where
   construct_is l (constructs.Single nowait) clauses s a x b y other h = h
   construct_is l constructs.Masked clauses s a x b y other h = h
   construct_is l (constructs.Critical name) clauses s a x b y other h = h
-  construct_is l constructs.Atomic clauses s a x b y other h = absurd other
+  construct_is l (constructs.Atomic access) clauses s a x b y other h = absurd other
   construct_is l constructs.Taskgroup clauses s a x b y other h = h
 
   pub construct_stands : (first : Span) (kind : ConstructKind) (clauses : List ResolvedClauseTree)

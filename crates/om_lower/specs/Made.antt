@@ -21,6 +21,8 @@ use Rattle.om_lower_rules.specs.declared.variables.VariableScope.{VariableScope}
 use Rattle.om_scope_tree.specs.ResolvedTree.{ResolvedFunctionTree, ResolvedTree}
 use Rattle.om_scope_tree.specs.Weights.{function_weight}
 use Rattle.om_lower_tables.specs.Room.{HasNumbers}
+use Rattle.om_lower_rules.specs.AtomicPlaces.{atomic_places}
+use Rattle.om_lower_rules.specs.Mentions.{atomic_lines}
 use Rattle.om_lower_rules.specs.Bodies.{BodySite, Numbers, behind_function, behind_functions, bodies_from, first_numbers}
 use Rattle.om_lower_rules.specs.Bodies.{function_bodies, variables_of}
 use Rattle.om_lower_rules.specs.Code.{given_of, slots_of}
@@ -47,6 +49,7 @@ pub record IsMade (tree : ResolvedTree) (lists : List PickList) (b : BodySite) (
   pub code : (picks : List (List ℕ)) → ListsStand lists picks → IsCodeAt tree picks b body.code
   pub slots : body.slots ≡ slots_of b
   pub given : body.given ≡ given_of b
+  pub atomic : body.atomic ≡ atomic_places (atomic_lines tree) body.code
   pub names : AreNames tree lists b body.code body.names
   pub room : HasRoom b
   pub short : length body.code ≤ 65536

@@ -9,6 +9,7 @@ ghost use Rattle.om_lower.specs.Words.{copied_variables, given_of, innermost, kn
 ghost use Rattle.om_lower.specs.Words.{seen_body, seen_round, seen_tree, site_variables, variables_of, FitsVariables};
 ghost use Rattle.om_lower.specs.Words.{frame_cells, own_cells};
 
+use crate::atomics::atomic_places;
 use crate::body::{Emitted, emitted_in};
 use crate::functions::{Known, SeenBody, is_main};
 use crate::names::names_with;
@@ -193,12 +194,13 @@ fn add_with(made: &mut Bodies, seen: &SeenBody<'_>, slots: Seq<Slot>) -> AllocRe
     let alloc = seen.known.input.alloc;
     let function = seen.site.function.name.as_slice();
     let names = names_with(alloc, function, scopes, seen.variables, seen.outer)?;
+    let atomic = atomic_places(alloc, &seen.known.input.tables.atomics, code.as_slice())?;
     let body = Body {
         code,
         slots,
         given,
         names,
-        atomic: Seq::new(alloc),
+        atomic,
     };
     put_body(made, body, lists)?;
     Ok(true)

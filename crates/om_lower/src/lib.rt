@@ -12,7 +12,8 @@
 //! - `statement` has the recursion over statements. `worksharing` has the begins and ends of worksharing loops
 //!   and of `sections`; om_lower_emit has those of `if`, loops and constructs. `region` writes what stands for
 //!   a `parallel` or `task` in the body that meets it.
-//! - `names` says what names mean in a body by its slots. `frame_of` and `first_high` keep limits, on slots
+//! - `names` says what names mean in a body by its slots, and `atomics` which of its loads and stores are the
+//!   access of an atomic read or write. `frame_of` and `first_high` keep limits, on slots
 //!   and on operands. `program` lays bodies and tables side by side, and `texts` cuts formats.
 //! - `specs/Limits` says which functions are too large, `specs/Made` what is made before all of the program
 //!   is, `specs/Refusals` why a tree has no program.
@@ -22,6 +23,7 @@
 //! The calls of om_code_places stand at this root too. Cases: gate_cases, "== code".
 #![tactic(auto)]
 
+mod atomics;
 mod bodies;
 mod body;
 mod functions;

@@ -207,7 +207,7 @@ pub(crate) fn statement(
             body,
         } => {
             let here = Here { tables, at: *at };
-            if let ConstructKind::Atomic = kind {
+            if let ConstructKind::Atomic { .. } = kind {
                 assignment(&mut writing.draft, &here, body)?;
                 return Ok(numbers);
             }

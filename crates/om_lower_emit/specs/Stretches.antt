@@ -236,7 +236,7 @@ construct_begin names l constructs.Masked clauses label done at =
 construct_begin names l (constructs.Critical name) clauses label done at =
     ins (site names done) l (i.Region (regionals.AskCritical (lock_number (site names done) name)))
     ▸ ins (site names done) l (i.Region (regionals.EnterCritical (lock_number (site names done) name))) ▸ end
-construct_begin names l constructs.Atomic clauses label done at = never
+construct_begin names l (constructs.Atomic access) clauses label done at = never
 construct_begin names l constructs.Taskgroup clauses label done at = ins (site names done) l (i.Task taskings.GroupBegin) ▸ end
 
 -- a function writes it there, unless memory runs out, and gives the label that is still to be placed
@@ -253,7 +253,7 @@ construct_end names l (constructs.Single nowait) label done at = here (at label)
 construct_end names l constructs.Masked label done at = ins (site names done) l (i.Region regionals.EndMasked) ▸ here (at label) ▸ end
 construct_end names l (constructs.Critical name) label done at =
     ins (site names done) l (i.Region (regionals.LeaveCritical (lock_number (site names done) name))) ▸ end
-construct_end names l constructs.Atomic label done at = never
+construct_end names l (constructs.Atomic access) label done at = never
 construct_end names l constructs.Taskgroup label done at = ins (site names done) l (i.Task taskings.GroupEnd) ▸ end
 
 -- a function writes it there, unless memory runs out, and places the label, unless the construct has no use for one
@@ -262,11 +262,11 @@ EndsConstruct result here kind label old new =
     AppendsEnd result here label (λ names l. construct_end names l kind) label old new
 
 abbrev pub IsNoAtomic : ConstructKind → Type 0
-IsNoAtomic constructs.Atomic = ⊥
+IsNoAtomic (constructs.Atomic access) = ⊥
 IsNoAtomic _ = Unit {0}
 
 -- a construct that is no `atomic`, with a filter that has code
 abbrev pub BeginHasCode : ConstructKind → List ResolvedClauseTree → Type 0
-BeginHasCode constructs.Atomic clauses = ⊥
+BeginHasCode (constructs.Atomic access) clauses = ⊥
 BeginHasCode constructs.Masked clauses = IfSome (clause_value clauses) ValueHasCode
 BeginHasCode _ clauses = Unit {0}

@@ -63,7 +63,7 @@ pub fn begin_construct(
                 .draft
                 .put(line, Instr::Region(Region::EnterCritical(lock)))?;
         }
-        ConstructKind::Atomic => unreachable!(),
+        ConstructKind::Atomic { .. } => unreachable!(),
         ConstructKind::Taskgroup => writing.draft.put(line, Instr::Task(Task::GroupBegin))?,
     }
     Ok(label)
@@ -97,7 +97,7 @@ pub fn end_construct(
             draft.put(line, Instr::Region(Region::LeaveCritical(lock)))?;
             Ok(())
         }
-        ConstructKind::Atomic => unreachable!(),
+        ConstructKind::Atomic { .. } => unreachable!(),
         ConstructKind::Taskgroup => {
             draft.put(line, Instr::Task(Task::GroupEnd))?;
             Ok(())

@@ -1,5 +1,5 @@
 -- What a statement means asks a layout for the variables that the statement names, and for no others.
-use Rattle.std.proofs.Common.{◌≡◌, ℕ, ◌<◌, List, [], ◌∷◌, ◌++◌, Option, Some, None, Bool, true, false, length, refl, ap, arith}
+use Rattle.std.proofs.Common.{◌≡◌, ℕ, ◌<◌, List, [], ◌∷◌, ◌++◌, Option, Some, None, Bool, true, false, length, refl, ap}
 use Rattle.std.proofs.Common.{◌∙◌, sym, subst}
 use Rattle.std.specs.Prelude.{nat_eq, option_map, slice_get, Contains, if◌then◌else◌}
 use Rattle.std.specs.List.{flat_map, list_any}

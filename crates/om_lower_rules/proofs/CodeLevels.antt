@@ -166,7 +166,7 @@ module _ (at : Site) where
     statement_levels (Construct first (constructs.Critical name) clauses s) n j h p q r =
         level_free (heads.critical_levels at first.line name (statement at n s nowhere)
         (λ h p q r. level_more (statement_levels s n nowhere h p q r) (λ hs k. (tt, tt))) h p q r)
-    statement_levels (Construct first constructs.Atomic clauses s) n j h p q r = level_free
+    statement_levels (Construct first (constructs.Atomic access) clauses s) n j h p q r = level_free
         (heads.assignment_levels at first.line s h p q r)
     statement_levels (Construct first constructs.Taskgroup clauses s) n j h p q r =
         level_free (heads.group_levels at first.line (statement at n s nowhere)

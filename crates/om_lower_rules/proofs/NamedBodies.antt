@@ -361,7 +361,7 @@ module _ (tree : ResolvedTree) (raw : Raw) (at : Site) (slots : List Slot) (prog
         (statement_sights s) v)
         (formats_back (clause_formats clauses) (mentioned format_mention s) t) (locks_back (clause_locks clauses)
         (mentioned lock_mention s) k.1) b) p q r
-    statement_names (Construct first constructs.Atomic clauses s) n j around g w v t k b p q r =
+    statement_names (Construct first (constructs.Atomic access) clauses s) n j around g w v t k b p q r =
         assignment_names first.line s (within around clauses) g w.1 (slots_back (flat_map clause_sights clauses)
         (statement_sights s) v)
         (formats_back (clause_formats clauses) (mentioned format_mention s) t) p q r

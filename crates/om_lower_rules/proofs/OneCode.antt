@@ -19,7 +19,8 @@ use Rattle.om_lower_rules.specs.Bodies.{function_variables, function_bodies, beh
 use Rattle.om_lower_rules.specs.Bodies.{bodies_of, first_numbers, variables_of}
 use Rattle.om_lower_rules.specs.Code.{body_row, IsBodyOf}
 use Rattle.om_lower_rules.specs.Laws.{OneBodyCode, OneCode}
-use Rattle.om_lower_rules.specs.Mentions.{formats_of, locks_of, IsTextOf}
+use Rattle.om_lower_rules.specs.AtomicPlaces.{atomic_places}
+use Rattle.om_lower_rules.specs.Mentions.{atomic_lines, formats_of, locks_of, IsTextOf}
 use Rattle.om_lower_rules.specs.Numbered.{site_with}
 use Rattle.om_lower_rules.specs.Rows.{Site}
 use Rattle.om_lower_rules.specs.Scopes.{Found, names_with}
@@ -176,7 +177,8 @@ module _ (tree : ResolvedTree) (raw other : Raw) where
       let names = a.names.named
       ∙ ap (λ (found : Found). names_with c.function.name (variables_of c) c.outer found.closed) scopes
       ∙ sym b.names.named in
-      λ i. record { code = code i; slots = slots i; given = given i; names = names i }
+      let atomic = a.atomic ∙ ap (λ lines. atomic_places (atomic_lines tree) lines) code ∙ sym b.atomic in
+      λ i. record { code = code i; slots = slots i; given = given i; names = names i; atomic = atomic i }
 
   same_bodies : (bs : List BodySite) (xs ys : List Body) → AllZip (IsBodyOf tree raw) bs xs
       → AllZip (IsBodyOf tree other) bs ys → xs ≡ ys

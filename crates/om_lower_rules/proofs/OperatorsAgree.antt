@@ -1,11 +1,10 @@
 -- What the operators of the source give is what the instructions give.
-use Rattle.std.proofs.Common.{◌≡◌, ℕ, ◌≤◌, ◌^◌, ℤ, pos, negsuc, Bool, true, false, refl, sym, ap, ◌∙◌, arith}
+use Rattle.std.proofs.Common.{◌≡◌, ℕ, ◌^◌, ℤ, pos, negsuc, Bool, true, false, refl, ap, ◌∙◌, arith}
 use Rattle.std.proofs.lemmas.Bool.{leb-true, leb-false, ltb-true, ltb-false}
 use Rattle.std.proofs.lemmas.Int.{ints, quot-rem}
-use Rattle.std.specs.Prelude.{◌+ℤ◌, ◌-ℤ◌, ◌*ℤ◌, neg_ℤ, int_lt, int_le, int_div, int_rem, not, ◌&&◌, nat_le, nat_lt, Result}
-use Rattle.std.specs.Prelude.{Ok, Err, Option, None, Some, if◌then◌else◌}
+use Rattle.std.specs.Prelude.{◌+ℤ◌, ◌-ℤ◌, ◌*ℤ◌, neg_ℤ, int_lt, int_le, int_div, int_rem, not, ◌&&◌, nat_le, nat_lt}
+use Rattle.std.specs.Prelude.{Ok, Err, Some, if◌then◌else◌}
 use Rattle.std.specs.Ordering.{int_eq}
-use Rattle.om_code.specs.declared.frame.Fault.{Fault}
 use Rattle.om_code.specs.declared.frame.Fault.TheVariants as fault
 use Rattle.om_code.specs.Arithmetic.{is_int, in_range, truth, divided, remaining, operate}
 use Rattle.om_parser_tree.specs.declared.tree.AssignOperator.TheVariants as assigns

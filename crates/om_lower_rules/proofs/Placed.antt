@@ -78,7 +78,7 @@ extent_cells d w = All-cons HasCells _ [] (cells d.length w) (All-nil HasCells)
 pub function_extents : (f : ResolvedFunctionTree) (around : Around) → AreWholeItems around f.body
     → All HasCells (extents_of f)
 function_extents f around w =
-    items_all extent_mention HasCells (λ e around used w. All-nil HasCells) extent_cells (λ kind. All-nil HasCells)
+    items_all extent_mention HasCells (λ e around used w. All-nil HasCells) extent_cells (λ at kind. All-nil HasCells)
     f.body around w
 
 module _ (tree : ResolvedTree) where
@@ -201,7 +201,7 @@ module _ (tree : ResolvedTree) where
           placed s (within around clauses) outer n g w.1 a.1
           (formats_back (flat_map (clause_mentioned format_mention) clauses) (mentioned format_mention s) t)
           (locks_back (flat_map (clause_mentioned lock_mention) clauses) (mentioned lock_mention s) k) b
-      placed (Construct first constructs.Atomic clauses s) around outer n g w a t k b =
+      placed (Construct first (constructs.Atomic access) clauses s) around outer n g w a t k b =
           placed s (within around clauses) outer n g w.1 a.1
           (formats_back (flat_map (clause_mentioned format_mention) clauses) (mentioned format_mention s) t)
           (locks_back (flat_map (clause_mentioned lock_mention) clauses) (mentioned lock_mention s) k) b

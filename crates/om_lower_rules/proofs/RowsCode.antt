@@ -246,7 +246,7 @@ module _ (at : Site) where
         )
     statement_says (Construct first (constructs.Critical name) clauses s) n j p q r = let u = r.1.1 in
         statement_says s n nowhere (p + 1 + 1) u.0 u.1
-    statement_says (Construct first constructs.Atomic clauses s) n j p q r = assignment_says first.line s p q r
+    statement_says (Construct first (constructs.Atomic access) clauses s) n j p q r = assignment_says first.line s p q r
     statement_says (Construct first constructs.Taskgroup clauses s) n j p q r = let u = r.1 in statement_says s n
         nowhere (p + 1) u.0 u.1
     statement_says (Update first u) n j p q r = updated_says first.line u.variable u.index _ _ u.operand p q r

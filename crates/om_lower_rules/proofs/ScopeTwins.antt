@@ -261,7 +261,7 @@ module _ (base : Site) (code code' : List Line) (picks picks' : List (List ℕ))
         (instructions_end 1)) (statement_match s)
     statement_match (Construct first (constructs.Critical name) clauses s) =
         around s _ _ (instructions_end 2) (statement_match s)
-    statement_match (Construct first constructs.Atomic clauses s) =
+    statement_match (Construct first (constructs.Atomic access) clauses s) =
         plain_match _ _ (assignment_ends first.line s)
     statement_match (Construct first constructs.Taskgroup clauses s) =
         around s _ _ (instructions_end 1) (statement_match s)

@@ -338,7 +338,7 @@ module _ (functions : List ResolvedFunctionTree) (formats locks picks picks' : L
           (λ k. (refl, refl)))
           p p' q q' r t)
           (λ k. tt)
-      statement_twin (Construct first constructs.Atomic clauses s) n outer base code code' j j' p p' q q' r t =
+      statement_twin (Construct first (constructs.Atomic access) clauses s) n outer base code code' j j' p p' q q' r t =
           twin_more (assignment_twin first.line s n outer base code code' p p' q q' r t) (λ k. tt)
       statement_twin (Construct first constructs.Taskgroup clauses s) n outer base code code' j j' p p' q q' r t =
           twin_more

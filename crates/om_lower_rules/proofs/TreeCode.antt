@@ -75,7 +75,7 @@ pub whole_has_code : WholeHasCode
 whole_has_code tree w a = record {
   bodies = whole_bodies tree.globals tree.functions tree.functions first_numbers w.functions w.functions a;
   formats = table_all IsCut bytes_eq (tree_mentioned format_mention tree) [] (All-nil IsCut)
-      (functions_all format_mention IsCut expression_cut (λ d w. All-nil IsCut) (λ kind. All-nil IsCut) tree.globals
+      (functions_all format_mention IsCut expression_cut (λ d w. All-nil IsCut) (λ at kind. All-nil IsCut) tree.globals
       tree.functions tree.functions w.functions);
   main = (w.main.0, w.main.1, w.main.2, w.main.3, w.main.4.named);
 }

@@ -6,12 +6,10 @@ use Rattle.std.specs.List.{AllZip, flat_map, list_any}
 use Rattle.std.proofs.lemmas.Bool.{eqb-true, eq-eqb}
 use Rattle.std.proofs.lemmas.List.Elements.{All-head, All-tail}
 use Rattle.std.proofs.lemmas.Option.{slice_get-map, slice_get_read}
-use Rattle.om_code.specs.declared.instruction.Place.TheVariants as places
 use Rattle.om_code.specs.declared.raw.Body.{Body}
 use Rattle.om_code.specs.declared.raw.GlobalVariable as raws
 use Rattle.om_code.specs.declared.raw.Raw.{Raw}
 use Rattle.om_code.specs.declared.raw.Slot.{Slot}
-use Rattle.om_code.specs.Frames as frames
 use Rattle.om_scope_tree.specs.declared.resolved.GlobalVariable.{GlobalVariable}
 use Rattle.om_scope_tree.specs.declared.resolved.Variable.{Variable}
 use Rattle.om_scope_tree.specs.declared.resolved.Variable.TheVariants.{Global, Local}
@@ -19,11 +17,11 @@ use Rattle.om_scope_tree.specs.ResolvedTree.{ResolvedFunctionTree, ResolvedTree}
 use Rattle.om_scope_tree.specs.Whole.{within}
 use Rattle.om_lower_rules.specs.Bodies.{BodyTree, FunctionBody, RegionBody, BodySite, bodies_of, variables_of}
 use Rattle.om_lower_rules.specs.Bodies.{Numbers, function_variables, region_variables}
-use Rattle.om_lower_rules.specs.Code.{IsBodyOf, IsCodeOf, captures_of, global_of, slots_of}
+use Rattle.om_lower_rules.specs.Code.{IsBodyOf, IsCodeOf, captures_of, global_of}
 use Rattle.om_lower_rules.specs.Layouts.{IsNamedIn, IsTrueLayout, PlacesAlike, TrueLayouts, body_meaning, declared_cells}
 use Rattle.om_lower_rules.specs.MeaningLaws.{layout_of}
 use Rattle.om_lower_rules.specs.Mentions.{extents_of}
-use Rattle.om_lower_rules.specs.Slots.{cells_in, cells_of_length, parameter_sight, place_of, region_clause_sights}
+use Rattle.om_lower_rules.specs.Slots.{cells_of_length, parameter_sight, place_of, region_clause_sights}
 use Rattle.om_lower_rules.specs.Slots.{slot_of, statement_sights, statements_sights}
 use Rattle.om_lower_rules.specs.Worlds.{World, Layout}
 use Rattle.om_lower_rules.proofs.Asked.{meaning_same, meanings_same}

@@ -256,7 +256,7 @@ mutual
   )
   whole_statement (Construct first (constructs.Critical name) clauses s) around few b c eb ec w a =
       whole_statement s (within around clauses) few false false refl refl w.1 a.1
-  whole_statement (Construct first constructs.Atomic clauses s) around few b c eb ec w a = whole_assignment s
+  whole_statement (Construct first (constructs.Atomic access) clauses s) around few b c eb ec w a = whole_assignment s
       (within around clauses) few w.1 a.0
   whole_statement (Construct first constructs.Taskgroup clauses s) around few b c eb ec w a =
       whole_statement s (within around clauses) few false false refl refl w.1 a.1

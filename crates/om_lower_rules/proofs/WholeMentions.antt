@@ -4,6 +4,7 @@ use Rattle.std.proofs.Common.{Bool, true, false, List, [], ◌∷◌, ◌++◌, 
 use Rattle.std.specs.Prelude.{◌≤◌, All, IfSome, fold, if◌then◌else◌}
 use Rattle.std.specs.List.{flat_map, list_any}
 use Rattle.std.proofs.lemmas.List.Elements.{All-nil, All-cons, All-head, All-tail, All-append}
+use Rattle.om_lexer.specs.declared.token.Span.{Span}
 use Rattle.om_scope_tree.specs.declared.resolved.ConstructKind.{ConstructKind}
 use Rattle.om_scope_tree.specs.declared.resolved.GlobalVariable.{GlobalVariable}
 use Rattle.om_scope_tree.specs.declared.resolved.Variable as variables
@@ -38,7 +39,7 @@ module _ {A : Type 0} (m : Mention A) (P : A → Type 0)
     (expression : (e : ResolvedExpressionTree) (around : Around) (used : Bool) → IsWhole around used e
     → All P (m.in_expression e))
     (named : (d : ResolvedDeclaratorTree) → IfSome d.length (λ length. 1 ≤ length) → All P (m.by_declarator d))
-    (construct : (kind : ConstructKind) → All P (m.by_construct kind)) where
+    (construct : (at : Span) (kind : ConstructKind) → All P (m.by_construct at kind)) where
   perhaps_all : (e : Option ResolvedExpressionTree) (around : Around) (used : Bool) → IsWholeIfAny around used e
       → All P (perhaps_mentioned m e)
   perhaps_all None around used w = All-nil P
@@ -130,7 +131,7 @@ module _ {A : Type 0} (m : Mention A) (P : A → Type 0)
         both (flat_map (clause_mentioned m) clauses) (parts_mentioned m sections)
         (clauses_all clauses around of_worksharing w.0) (parts_all sections (within around clauses) w.3)
     statement_all (Construct first kind clauses s) around w =
-        both (m.by_construct kind) (flat_map (clause_mentioned m) clauses ++ mentioned m s) (construct kind)
+        both (m.by_construct first kind) (flat_map (clause_mentioned m) clauses ++ mentioned m s) (construct first kind)
         (both (flat_map (clause_mentioned m) clauses) (mentioned m s)
         (clauses_all clauses around (of_construct kind) w.0)
         (statement_all s (within around clauses) w.1))

@@ -18,7 +18,8 @@ use Rattle.om_scope_tree.specs.ResolvedTree.{ResolvedFunctionTree, ResolvedTree}
 use Rattle.om_lower_rules.specs.declared.variables.VariableScope.{VariableScope}
 use Rattle.om_lower_rules.specs.Bodies.{Numbers, BodyTree, FunctionBody, RegionBody, BodySite, variables_of}
 use Rattle.om_lower_rules.specs.Bodies.{bodies_of, behind_functions, first_numbers, called_body}
-use Rattle.om_lower_rules.specs.Mentions.{extents_of, formats_of, locks_of, IsTextOf}
+use Rattle.om_lower_rules.specs.AtomicPlaces.{atomic_places}
+use Rattle.om_lower_rules.specs.Mentions.{atomic_lines, extents_of, formats_of, locks_of, IsTextOf}
 use Rattle.om_lower_rules.specs.Rows.{Site, Row, end, ins, part, ◌▸◌}
 use Rattle.om_lower_rules.specs.Scopes.{body_scopes, names_with}
 use Rattle.om_lower_rules.specs.Slots.{parameter_sight, slot_of, slot_with}
@@ -79,6 +80,7 @@ pub record IsBodyOf (tree : ResolvedTree) (raw : Raw) (b : BodySite) (body : Bod
   pub code : body_row (site_of tree raw b body) b.numbers b.function b.tree 0 (length body.code)
   pub slots : body.slots ≡ slots_of b
   pub given : body.given ≡ given_of b
+  pub atomic : body.atomic ≡ atomic_places (atomic_lines tree) body.code
   pub names : HasScopes (site_of tree raw b body) b body.names
 
 -- ---- the program

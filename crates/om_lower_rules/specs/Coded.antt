@@ -103,7 +103,7 @@ abbrev mutual
       LoopIsCoded few loop × StatementIsCoded few false true s
   StatementIsCoded few breaks continues (Sections first clauses nowait sections) =
       IsWithin few 256 (part_count sections) × PartsAreCoded few sections
-  StatementIsCoded few breaks continues (Construct first constructs.Atomic clauses s) = AssignmentIsCoded few s
+  StatementIsCoded few breaks continues (Construct first (constructs.Atomic access) clauses s) = AssignmentIsCoded few s
   StatementIsCoded few breaks continues (Construct first constructs.Masked clauses s) =
       IfSome (clause_value clauses) (ValueIsCoded few) × StatementIsCoded few false false s
   StatementIsCoded few breaks continues (Construct first kind clauses s) = StatementIsCoded few false false s

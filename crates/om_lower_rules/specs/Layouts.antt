@@ -1,7 +1,7 @@
 -- Where the variables of a body are. Different variables have different places (C17 6.2.2p2: each declaration of a
 -- local name denotes an entity of its own), each has the cells that its declaration gives it (C17 6.2.5p20), and what
 -- the body means asks for no other variables.
-use Rattle.std.specs.Prelude.{◌≡◌, ◌<◌, ℕ, List, Option, Some, Contains, length, option_map, slice_get}
+use Rattle.std.specs.Prelude.{◌≡◌, ◌<◌, ℕ, Option, Some, Contains, length, option_map, slice_get}
 use Rattle.std.specs.List.{AllZip}
 use Rattle.om_code.specs.declared.instruction.Place.TheVariants as places
 use Rattle.om_code.specs.declared.raw.Raw.{Raw}

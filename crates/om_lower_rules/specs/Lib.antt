@@ -6,6 +6,7 @@ pub mod Slots
 pub mod Bodies
 pub mod Positions
 pub mod Mentions
+pub mod AtomicPlaces
 pub mod Expressions
 pub mod Statements
 pub mod Scopes

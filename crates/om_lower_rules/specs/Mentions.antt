@@ -1,10 +1,14 @@
 -- What a whole function mentions, its regions too, in the order of the text: formats, names of critical
--- regions, declared variables.
-use Rattle.std.specs.Prelude.{◌≡◌, ℕ, List, [], ◌∷◌, ◌++◌, Option, None, Some, map, option_map}
+-- regions, lines of atomic reads and writes, declared variables.
+use Rattle.std.specs.Prelude.{◌≡◌, ℕ, List, [], ◌∷◌, ◌++◌, Option, None, Some, fold, map, option_map}
+use Rattle.std.specs.BTreeMap.{insert_entry}
 use Rattle.std.specs.List.{flat_map}
+use Rattle.std.specs.Ordering.{nat_cmp}
 use Rattle.std.specs.Str.{bytes_eq}
 use Rattle.om_code.specs.declared.raw.Piece as texts
 use Rattle.om_code.specs.declared.raw.Piece.TheVariants as pieces
+use Rattle.om_lexer.specs.declared.token.Span.{Span}
+use Rattle.om_scope_tree.specs.declared.resolved.AtomicAccess.{AtomicAccess}
 use Rattle.om_scope_tree.specs.declared.resolved.ConstructKind.{ConstructKind}
 use Rattle.om_scope_tree.specs.declared.resolved.ConstructKind.TheVariants as constructs
 use Rattle.om_scope_tree.specs.Formats.{Piece, Bytes, Value, pieces_of}
@@ -22,11 +26,11 @@ use Rattle.om_scope_tree.specs.ResolvedTree.{ResolvedFunctionTree, ResolvedTree}
 use Rattle.om_lower_rules.specs.Slots.{Extent, extent_of}
 use Rattle.om_lower_rules.specs.Tables.{table_of}
 
--- what is looked for: in an expression, by a declared name, and by a construct
+-- what is looked for: in an expression, by a declared name, and by a construct and the span where it begins
 pub record Mention (A : Type 0) : Type 0 where
   pub in_expression : ResolvedExpressionTree → List A
   pub by_declarator : ResolvedDeclaratorTree → List A
-  pub by_construct : ConstructKind → List A
+  pub by_construct : Span → ConstructKind → List A
 
 abbrev pub perhaps_mentioned : {A : Type 0} → Mention A → Option ResolvedExpressionTree → List A
 perhaps_mentioned m None = []
@@ -70,7 +74,7 @@ unfoldable mutual
   mentioned m (Loop at clauses nowait l s) = flat_map (clause_mentioned m) clauses
       ++ (loop_mentioned m l ++ mentioned m s)
   mentioned m (Sections at clauses nowait parts) = flat_map (clause_mentioned m) clauses ++ parts_mentioned m parts
-  mentioned m (Construct at kind clauses s) = m.by_construct kind ++ (flat_map (clause_mentioned m) clauses
+  mentioned m (Construct at kind clauses s) = m.by_construct at kind ++ (flat_map (clause_mentioned m) clauses
       ++ mentioned m s)
   mentioned m (Update at u) = update_mentioned m u
   mentioned m (StandAlone at directive) = []
@@ -113,7 +117,7 @@ unfoldable mutual
   values_formats (trees.Value e rest) = expression_formats e ++ values_formats rest
 
 abbrev pub format_mention : Mention (List ℕ)
-format_mention = record { in_expression = expression_formats; by_declarator = λ d. []; by_construct = λ kind. [] }
+format_mention = record { in_expression = expression_formats; by_declarator = λ d. []; by_construct = λ at kind. [] }
 
 -- the formats of a program, each once, by their numbers
 abbrev pub formats_of : ResolvedTree → List (List ℕ)
@@ -139,16 +143,34 @@ construct_locks (constructs.Critical name) = lock_name name ∷ []
 construct_locks _ = []
 
 abbrev pub lock_mention : Mention (List ℕ)
-lock_mention = record { in_expression = λ e. []; by_declarator = λ d. []; by_construct = construct_locks }
+lock_mention = record { in_expression = λ e. []; by_declarator = λ d. []; by_construct = λ at kind. construct_locks kind }
 
 -- those of a program, each once, by their numbers
 abbrev pub locks_of : ResolvedTree → List (List ℕ)
 locks_of tree = table_of bytes_eq (tree_mentioned lock_mention tree)
 
+-- ---- atomic reads and writes
+
+-- the line of its directive, and which of both it is
+abbrev pub construct_accesses : Span → ConstructKind → List (ℕ × AtomicAccess)
+construct_accesses at (constructs.Atomic access) = (at.line, access) ∷ []
+construct_accesses at _ = []
+
+abbrev pub access_mention : Mention (ℕ × AtomicAccess)
+access_mention = record { in_expression = λ e. []; by_declarator = λ d. []; by_construct = construct_accesses }
+
+-- a table by lines, with one more
+abbrev pub with_access : List (ℕ × AtomicAccess) → ℕ × AtomicAccess → List (ℕ × AtomicAccess)
+with_access lines one = insert_entry nat_cmp lines one.0 one.1
+
+-- those of a program, by their lines: no two directives have one line
+abbrev pub atomic_lines : ResolvedTree → List (ℕ × AtomicAccess)
+atomic_lines tree = fold with_access [] (tree_mentioned access_mention tree)
+
 -- ---- declared variables
 
 abbrev pub extent_mention : Mention Extent
-extent_mention = record { in_expression = λ e. []; by_declarator = λ d. extent_of d ∷ []; by_construct = λ kind. [] }
+extent_mention = record { in_expression = λ e. []; by_declarator = λ d. extent_of d ∷ []; by_construct = λ at kind. [] }
 
 -- how many cells the declared variables of a function have
 abbrev pub extents_of : ResolvedFunctionTree → List Extent

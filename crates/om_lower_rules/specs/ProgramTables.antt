@@ -3,7 +3,7 @@ use Rattle.std.specs.Prelude.{◌≡◌, ℕ, List, map}
 use Rattle.std.specs.List.{AllZip}
 use Rattle.om_scope_tree.specs.ResolvedTree.{ResolvedFunctionTree, ResolvedTree}
 use Rattle.om_lower_rules.specs.Bodies.{Numbers, behind_functions, first_numbers}
-use Rattle.om_lower_rules.specs.Mentions.{extents_of, formats_of, locks_of}
+use Rattle.om_lower_rules.specs.Mentions.{atomic_lines, extents_of, formats_of, locks_of}
 use Rattle.om_lower_rules.specs.Slots.{Extent, cells_in}
 use Rattle.om_lower_rules.specs.declared.body.BodyTables.{BodyTables}
 use Rattle.om_lower_rules.specs.declared.tables.Tables.{Tables}
@@ -26,6 +26,7 @@ AreCellsOf f extents = (variable : ℕ) → cells_in extents variable ≡ cells_
 pub record IsTablesOf (tree : ResolvedTree) (tables : Tables) : Type 0 where
   pub formats : tables.formats ≡ formats_of tree
   pub locks : tables.locks ≡ locks_of tree
+  pub atomics : tables.atomics.entries ≡ atomic_lines tree
   pub cells : AllZip AreCellsOf tree.functions tables.extents.items
   pub numbered : AreBodiesOf tree.functions tables
   pub ends : ends_in tables ≡ ends_from first_numbers tree.functions

@@ -170,19 +170,19 @@ construct_head at l (constructs.Single nowait) clauses =
 construct_head at l constructs.Masked clauses =
     plain (part (filter_row at l (clause_value clauses)) ▸ instructions 1)
 construct_head at l (constructs.Critical name) clauses = plain (instructions 2)
-construct_head at l constructs.Atomic clauses = plain never
+construct_head at l (constructs.Atomic access) clauses = plain never
 construct_head at l constructs.Taskgroup clauses = plain (instructions 1)
 
 abbrev pub construct_end : Site → ℕ → ConstructKind → Row
 construct_end at l (constructs.Single nowait) = worksharing_end at l nowait
 construct_end at l constructs.Masked = instructions 1
 construct_end at l (constructs.Critical name) = instructions 1
-construct_end at l constructs.Atomic = never
+construct_end at l (constructs.Atomic access) = never
 construct_end at l constructs.Taskgroup = instructions 1
 
 abbrev pub construct_scopes : Site → ℕ → ConstructKind → List ResolvedClauseTree → ResolvedStatementTree → Scoping
     → Scoping
-construct_scopes at l constructs.Atomic clauses s inner = plain (assignment_row at l s)
+construct_scopes at l (constructs.Atomic access) clauses s inner = plain (assignment_row at l s)
 construct_scopes at l kind clauses s inner =
     block (both (construct_head at l kind clauses) (before (block inner) (construct_end at l kind)))
 

@@ -222,7 +222,7 @@ abbrev pub construct_row : Site → ℕ → ConstructKind → List ResolvedClaus
 construct_row at l (constructs.Single nowait) clauses s body = single_row at l nowait clauses body
 construct_row at l constructs.Masked clauses s body = masked_row at l clauses body
 construct_row at l (constructs.Critical name) clauses s body = critical_row at l name body
-construct_row at l constructs.Atomic clauses s body = assignment_row at l s
+construct_row at l (constructs.Atomic access) clauses s body = assignment_row at l s
 construct_row at l constructs.Taskgroup clauses s body = group_row at l body
 
 -- lb, ub, starts, LOOP, G: GRAB E, I: ITER i G, body, JMP I, E: RED each, ENDW, ARRIVE, DEPART

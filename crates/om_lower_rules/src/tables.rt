@@ -6,6 +6,8 @@ ghost use Rattle.om_lower_rules.specs.Bodies as bodies;
 
 use crate::extents::Extents;
 use crate::texts::Texts;
+use om_scope_tree::AtomicAccess;
+use std::collections::BTreeMap;
 
 /// The numbers that the next body, and the next list of PICK, get.
 #[derive(Clone, Copy)]
@@ -55,6 +57,8 @@ pub struct Tables {
     pub formats: Texts,
     /// The names of critical regions, by their numbers; the unnamed one has no bytes.
     pub locks: Texts,
+    /// What the `atomic read` or `atomic write` of a line does.
+    pub atomics: BTreeMap<u32, AtomicAccess>,
     /// How many cells the variables of each function have.
     pub extents: Vec<Extents>,
     /// The number of the body of each function.

@@ -4,18 +4,19 @@ use Rattle.std.proofs.lemmas.List.Sums.{fold-append}
 use Rattle.std.proofs.lemmas.List.{append_assoc, append-nil}
 use Rattle.std.specs.List.{AllZip}
 use Rattle.std.specs.Str.{bytes_eq}
+use Rattle.om_scope_tree.specs.declared.resolved.AtomicAccess.{AtomicAccess}
 use Rattle.om_scope_tree.specs.ResolvedTree.{ResolvedFunctionTree, ResolvedPartsTree, ResolvedStatementsTree, Part}
 use Rattle.om_lower_rules.specs.Bodies.{Numbers, behind_all, behind_parts}
 use Rattle.om_lower_rules.specs.Ends.{all_region_ends, parts_region_ends}
 use Rattle.om_lower_rules.specs.Numbering.{numbers_of}
 use Rattle.om_lower_rules.specs.Tables.{with_sight}
 use Rattle.om_lower_rules.specs.declared.tables.Numbers as tables
-use Rattle.om_lower_rules.specs.Mentions.{Mention, all_mentioned, extent_mention, format_mention, lock_mention}
-use Rattle.om_lower_rules.specs.Mentions.{parts_mentioned}
+use Rattle.om_lower_rules.specs.Mentions.{Mention, access_mention, all_mentioned, extent_mention, format_mention}
+use Rattle.om_lower_rules.specs.Mentions.{lock_mention, parts_mentioned, with_access}
 use Rattle.om_lower_tables.specs.declared.mentions.Mentions.{Mentions}
 use Rattle.om_lower_rules.specs.Extents.{measured}
 use Rattle.om_lower_rules.specs.Slots.{Extent}
-use Rattle.om_lower_tables.specs.Noted.{AddsCells, AreNoted, noted}
+use Rattle.om_lower_tables.specs.Noted.{AddsCells, AreNoted, accessed, noted}
 use Rattle.om_lower_rules.specs.ProgramTables.{AreCellsOf}
 
 abbrev pub AreLeft : (left all : (A : Type 0) → Mention A → List A) → (now first : Mentions) → Type 0
@@ -23,12 +24,17 @@ AreLeft left all now first =
     (noted now.formats (left _ format_mention) ≡ noted first.formats (all _ format_mention))
     × (noted now.locks (left _ lock_mention) ≡ noted first.locks (all _ lock_mention))
     × (measured now.extents (left _ extent_mention) ≡ measured first.extents (all _ extent_mention))
+    × (accessed now.atomics.entries (left _ access_mention) ≡ accessed first.atomics.entries (all _ access_mention))
 
 pub noted_further : (texts xs ys : List (List ℕ)) → noted texts (xs ++ ys) ≡ noted (noted texts xs) ys
 noted_further texts xs ys = fold-append (with_sight bytes_eq) texts xs ys
 
 measured_further : (extents xs ys : List Extent) → measured extents (xs ++ ys) ≡ measured (measured extents xs) ys
 measured_further extents xs ys = fold-append _ extents xs ys
+
+pub accessed_further : (lines xs ys : List (ℕ × AtomicAccess))
+    → accessed lines (xs ++ ys) ≡ accessed (accessed lines xs) ys
+accessed_further lines xs ys = fold-append with_access lines xs ys
 
 -- one mention more
 left_next : (one rest left all : (A : Type 0) → Mention A → List A) (now next first : Mentions)
@@ -37,13 +43,17 @@ left_next : (one rest left all : (A : Type 0) → Mention A → List A) (now nex
 left_next one rest left all now next first here more is =
     let f = format_mention in
     let l = lock_mention in
-    let e = extent_mention in (
+    let e = extent_mention in
+    let a = access_mention in (
       ap (λ texts. noted texts (rest _ f)) more.0 ∙ sym (noted_further now.formats (one _ f) (rest _ f))
           ∙ ap (λ sights. noted now.formats sights) (sym (here _ f)) ∙ is.0,
       ap (λ texts. noted texts (rest _ l)) more.1 ∙ sym (noted_further now.locks (one _ l) (rest _ l))
           ∙ ap (λ sights. noted now.locks sights) (sym (here _ l)) ∙ is.1,
       ap (λ extents. measured extents (rest _ e)) more.2 ∙ sym (measured_further now.extents (one _ e) (rest _ e))
           ∙ ap (λ declared. measured now.extents declared) (sym (here _ e)) ∙ is.2,
+      ap (λ lines. accessed lines (rest _ a)) more.3
+          ∙ sym (accessed_further now.atomics.entries (one _ a) (rest _ a))
+          ∙ ap (λ sights. accessed now.atomics.entries sights) (sym (here _ a)) ∙ is.3,
     )
 
 -- a part of `sections` has been walked over

@@ -3,6 +3,7 @@ use Rattle.std.proofs.Common.{◌≡◌, ◌≤◌, ◌+◌, ℕ, List, [], ◌�
 use Rattle.std.specs.Prelude.{Option, sum}
 use Rattle.std.specs.List.{flat_map}
 use Rattle.std.specs.Str.{bytes_eq}
+use Rattle.om_lexer.specs.declared.token.Span.{Span}
 use Rattle.om_scope_tree.specs.declared.resolved.ConstructKind.{ConstructKind}
 use Rattle.om_scope_tree.specs.ResolvedTree.{ResolvedExpressionTree, ResolvedClauseTree}
 use Rattle.om_scope_tree.specs.ResolvedTree.{ResolvedLoopTree, ResolvedStartTree, ResolvedStatementTree}
@@ -38,9 +39,24 @@ pub value_behind : (e : ResolvedExpressionTree) (old new : Mentions) → AreNote
     → texts_in new ≤ texts_in old + expression_weight e
 value_behind e old new all = omega (arith, are_noted_few (λ A m. m.in_expression e) old new all, expression_few e)
 
+-- by the texts alone
+pub perhaps_texts : (e : Option ResolvedExpressionTree) (formats all_formats locks all_locks : List (List ℕ))
+    → all_formats ≡ noted formats (perhaps_mentioned format_mention e)
+    → all_locks ≡ noted locks (perhaps_mentioned lock_mention e)
+    → length all_formats + length all_locks ≤ length formats + length locks + perhaps_weight e
+perhaps_texts e formats all_formats locks all_locks formats_are locks_are =
+    omega (
+      arith,
+      ap length formats_are,
+      ap length locks_are,
+      noted_length formats (perhaps_mentioned format_mention e),
+      noted_length locks (perhaps_mentioned lock_mention e),
+      perhaps_few e,
+    )
+
 pub perhaps_behind : (e : Option ResolvedExpressionTree) (old new : Mentions)
     → AreNoted (λ A m. perhaps_mentioned m e) old new → texts_in new ≤ texts_in old + perhaps_weight e
-perhaps_behind e old new all = omega (arith, are_noted_few (λ A m. perhaps_mentioned m e) old new all, perhaps_few e)
+perhaps_behind e old new all = perhaps_texts e old.formats new.formats old.locks new.locks all.0 all.1
 
 pub start_behind : (start : ResolvedStartTree) (old new : Mentions)
     → AreNoted (λ A m. start_mentioned m start) old new → texts_in new ≤ texts_in old + start_weight start
@@ -62,10 +78,10 @@ pub loop_behind : (l : ResolvedLoopTree) (old new : Mentions) → AreNoted (λ A
     → texts_in new ≤ texts_in old + loop_weight l
 loop_behind l old new all = omega (arith, are_noted_few (λ A m. loop_mentioned m l) old new all, loop_few l)
 
-pub construct_behind : (kind : ConstructKind) (old new : Mentions) → AreNoted (λ A m. m.by_construct kind) old new
-    → texts_in new ≤ texts_in old + 1
-construct_behind kind old new all =
-    omega (arith, are_noted_few (λ A m. m.by_construct kind) old new all, construct_few kind)
+pub construct_behind : (at : Span) (kind : ConstructKind) (old new : Mentions)
+    → AreNoted (λ A m. m.by_construct at kind) old new → texts_in new ≤ texts_in old + 1
+construct_behind at kind old new all =
+    omega (arith, are_noted_few (λ A m. m.by_construct at kind) old new all, construct_few kind)
 
 pub head_behind : (start : ResolvedStartTree) (test after : Option ResolvedExpressionTree) (old new : Mentions)
     → AreNoted (λ A m. start_mentioned m start ++ (perhaps_mentioned m test ++ perhaps_mentioned m after)) old new

@@ -1,6 +1,8 @@
 -- What is promised of a walk over a tree: what it notes, and the numbers that it comes to.
 use Rattle.std.specs.Prelude.{◌≡◌, ◌+◌, ◌++◌, ℕ, List, Option, map, sum}
 use Rattle.std.specs.List.{flat_map}
+use Rattle.om_lexer.specs.declared.token.Span.{Span}
+use Rattle.om_scope_tree.specs.declared.resolved.ConstructKind.{ConstructKind}
 use Rattle.om_scope_tree.specs.declared.resolved.ResolvedClause.{ResolvedClause}
 use Rattle.om_scope_tree.specs.declared.resolved.ResolvedDeclarator.{ResolvedDeclarator}
 use Rattle.om_scope_tree.specs.declared.resolved.ResolvedExpression.{ResolvedExpression}
@@ -17,12 +19,12 @@ use Rattle.om_scope_tree.specs.Weights.{declarator_weight, function_weight, perh
 use Rattle.om_lower_rules.specs.Bodies.{Numbers, behind, behind_function, behind_functions, first_numbers, next_body}
 use Rattle.om_lower_rules.specs.Ends.{all_region_ends, ends_from, function_ends, parts_region_ends, region_ends}
 use Rattle.om_lower_rules.specs.Mentions.{Mention, all_mentioned, clause_mentioned, declarator_mentioned, expression_formats}
-use Rattle.om_lower_rules.specs.Mentions.{format_mention}
+use Rattle.om_lower_rules.specs.Mentions.{access_mention, format_mention}
 use Rattle.om_lower_rules.specs.Mentions.{function_mentioned, lock_mention, loop_mentioned, mentioned, parts_mentioned}
 use Rattle.om_lower_rules.specs.Mentions.{perhaps_mentioned, start_mentioned, update_mentioned}
 use Rattle.om_lower_rules.specs.Numbering.{numbers_of}
 use Rattle.om_lower_tables.specs.declared.mentions.Walk.{Walk}
-use Rattle.om_lower_tables.specs.Noted.{AreNoted, noted}
+use Rattle.om_lower_tables.specs.Noted.{AreNoted, accessed, noted}
 use Rattle.om_lower_tables.specs.Trees.{part_trees, perhaps_tree, statement_trees}
 
 -- ---- what a part mentions, of each kind
@@ -51,6 +53,9 @@ by_clauses clauses A m = flat_map (clause_mentioned m) (map view.clause clauses)
 
 abbrev pub by_loop : ResolvedLoop → (A : Type 0) → Mention A → List A
 by_loop repeated A m = loop_mentioned m (view.loop repeated)
+
+abbrev pub by_construct : Span → ConstructKind → (A : Type 0) → Mention A → List A
+by_construct at kind A m = m.by_construct at kind
 
 abbrev pub by_update : ResolvedUpdate → (A : Type 0) → Mention A → List A
 by_update update A m = update_mentioned m (view.update update)
@@ -117,7 +122,7 @@ behind_body n s = behind (next_body n) s
 
 -- ---- a walk over functions
 
--- the formats of a function are noted, and its names of critical regions
+-- the formats of a function are noted, its names of critical regions, and its lines of atomic reads and writes
 abbrev pub HasFormats : ResolvedFunction → Walk → Walk → Type 0
 HasFormats function old new =
     new.found.formats ≡ noted old.found.formats (function_mentioned format_mention (view.function function))
@@ -125,6 +130,11 @@ HasFormats function old new =
 abbrev pub HasLocks : ResolvedFunction → Walk → Walk → Type 0
 HasLocks function old new =
     new.found.locks ≡ noted old.found.locks (function_mentioned lock_mention (view.function function))
+
+abbrev pub HasAccesses : ResolvedFunction → Walk → Walk → Type 0
+HasAccesses function old new =
+    new.found.atomics.entries
+    ≡ accessed old.found.atomics.entries (function_mentioned access_mention (view.function function))
 
 -- it comes to the numbers behind a function
 abbrev pub PassesFunction : ResolvedFunction → Walk → Walk → Type 0
@@ -134,7 +144,8 @@ PassesFunction function old new = Passes behind_function (view.function function
 abbrev pub AddsFunctionEnds : ResolvedFunction → Walk → Walk → Type 0
 AddsFunctionEnds function old new = AddsEnds function_ends (view.function function) old new
 
--- the formats of all functions of a program are noted, and their names of critical regions
+-- the formats of all functions of a program are noted, their names of critical regions, and their lines of atomic
+-- reads and writes
 abbrev pub HaveFormats : List ResolvedFunction → Walk → Walk → Type 0
 HaveFormats functions old new =
     let sights = flat_map (function_mentioned format_mention) (map view.function functions) in
@@ -144,6 +155,11 @@ abbrev pub HaveLocks : List ResolvedFunction → Walk → Walk → Type 0
 HaveLocks functions old new =
     let sights = flat_map (function_mentioned lock_mention) (map view.function functions) in
     new.found.locks ≡ noted old.found.locks sights
+
+abbrev pub HaveAccesses : List ResolvedFunction → Walk → Walk → Type 0
+HaveAccesses functions old new =
+    let sights = flat_map (function_mentioned access_mention) (map view.function functions) in
+    new.found.atomics.entries ≡ accessed old.found.atomics.entries sights
 
 -- the numbers behind them are added, body by body
 abbrev pub HaveEnds : List ResolvedFunction → Walk → Walk → Type 0

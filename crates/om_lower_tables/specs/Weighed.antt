@@ -145,7 +145,7 @@ pub construct_few : (kind : ConstructKind) → length (construct_locks kind) ≤
 construct_few (constructs.Single nowait) = omega arith
 construct_few constructs.Masked = omega arith
 construct_few (constructs.Critical name) = omega arith
-construct_few constructs.Atomic = omega arith
+construct_few (constructs.Atomic access) = omega arith
 construct_few constructs.Taskgroup = omega arith
 
 -- ---- what a statement mentions, and the numbers behind it

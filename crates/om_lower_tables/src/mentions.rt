@@ -1,25 +1,33 @@
-//! What a program mentions, its regions too: formats, names of critical regions, declared variables. The same walk
-//! numbers the regions.
+//! What a program mentions, its regions too: formats, names of critical regions, lines of atomic reads and writes,
+//! declared variables. The same walk numbers the regions.
 
 ghost use Rattle.std.specs.Prelude.{◌≡◌, ◌<◌, ◌+◌, OnOk, length, map, set, sum};
+ghost use Rattle.std.specs.Str.{bytes_eq};
 ghost use Rattle.om_scope_tree.specs.ResolvedView as view;
 ghost use Rattle.om_scope_tree.specs.Weights.{clause_weight, expression_weight, loop_weight, parts_weight, perhaps_weight, start_weight, statement_weight, statements_weight, update_weight, values_weight};
-ghost use Rattle.om_lower_rules.specs.Mentions.{values_formats};
+ghost use Rattle.om_lower_rules.specs.Mentions.{lock_name, values_formats, with_access};
+ghost use Rattle.om_lower_rules.specs.Tables.{with_sight};
 ghost use Rattle.om_lower_rules.specs.Slots.{cells_of_length};
 ghost use Rattle.om_lower_rules.specs.Bodies.{behind, behind_all, behind_parts};
 ghost use Rattle.om_lower_rules.specs.Ends.{body_ends};
 ghost use Rattle.om_lower_tables.specs.Noted.{AreNoted, noted};
 ghost use Rattle.om_lower_tables.specs.Room.{HasRoom, HasRoomBehind, HasTextRoom};
 ghost use Rattle.om_lower_tables.specs.Trees.{listed, part_trees, perhaps_tree, statement_trees};
-ghost use Rattle.om_lower_tables.specs.Walks.{AddsAllRegionEnds, AddsEnds, AddsPartsRegionEnds, AddsRegionEnds, Finds, Passes, behind_body, by_clause, by_clauses, by_declarators, by_head, by_loop, by_parts, by_perhaps, by_start, by_statement, by_statements, by_update, by_value, declarators_weight, formats_in, head_weight};
+ghost use Rattle.om_lower_tables.specs.Walks.{AddsAllRegionEnds, AddsEnds, AddsPartsRegionEnds, AddsRegionEnds, Finds};
+ghost use Rattle.om_lower_tables.specs.Walks.{Passes, behind_body, by_clause, by_clauses, by_construct};
+ghost use Rattle.om_lower_tables.specs.Walks.{by_declarators, by_head, by_loop, by_parts, by_perhaps, by_start};
+ghost use Rattle.om_lower_tables.specs.Walks.{by_statement, by_statements, by_update, by_value, declarators_weight};
+ghost use Rattle.om_lower_tables.specs.Walks.{formats_in, head_weight};
 
+use om_lexer::Span;
 use om_lower_rules::{Extents, Numbers, Texts};
 use om_scope_tree::{
-    ConstructKind, ResolvedClause, ResolvedDeclarator, ResolvedExpression, ResolvedHead,
-    ResolvedLoop, ResolvedPart, ResolvedStart, ResolvedStatement, ResolvedUpdate,
+    AtomicAccess, ConstructKind, ResolvedClause, ResolvedDeclarator, ResolvedExpression,
+    ResolvedHead, ResolvedLoop, ResolvedPart, ResolvedStart, ResolvedStatement, ResolvedUpdate,
 };
-use om_seq::AllocResult;
+use om_seq::{AllocResult, Seq};
 use std::alloc::Global;
+use std::collections::BTreeMap;
 
 /// What functions mention, in the order of the text.
 #[derive(Drop)]
@@ -29,6 +37,8 @@ pub(crate) struct Mentions {
     pub(crate) formats: Texts,
     /// The names of critical regions; the unnamed one has no bytes.
     pub(crate) locks: Texts,
+    /// What the `atomic read` or `atomic write` of a line does.
+    pub(crate) atomics: BTreeMap<u32, AtomicAccess>,
     /// The declared variables.
     pub(crate) extents: Extents,
 }
@@ -194,16 +204,37 @@ fn note_update(found: &mut Mentions, update: &ResolvedUpdate) -> AllocResult<()>
 }
 
 // Notes the name of a critical region.
-fn note_construct(found: &mut Mentions, kind: &ConstructKind) -> AllocResult<()>
-    requires room { HasTextRoom 1 found.old }
-    ensures { OnOk result (AreNoted (λ A m. m.by_construct kind.now) found.old found.new) }
+fn note_lock(locks: &mut Texts, alloc: Global, name: &Option<Seq<u8>>) -> AllocResult<()>
+    requires room { HasRoomBehind 1 locks.old }
+    ensures { OnOk result (locks.new ≡ with_sight bytes_eq locks.old (lock_name name.now)) }
 {
-    let ConstructKind::Critical { name } = kind else {
-        return Ok(());
-    };
     match name {
-        None => found.locks.note(found.alloc, &[]),
-        Some(name) => found.locks.note(found.alloc, name.as_slice()),
+        None => locks.note(alloc, &[]),
+        Some(name) => locks.note(alloc, name.as_slice()),
+    }
+}
+
+// Notes the line of an atomic read or write.
+fn note_access(
+    lines: &mut BTreeMap<u32, AtomicAccess>,
+    at: Span,
+    access: AtomicAccess,
+) -> AllocResult<()>
+    ensures { OnOk result (lines.new.entries ≡ with_access lines.old.entries (at.line, access)) }
+{
+    lines.insert(at.line, access)?;
+    Ok(())
+}
+
+// Notes what a construct mentions by itself: the name of a critical region, or the line of an atomic access.
+fn note_construct(found: &mut Mentions, at: Span, kind: &ConstructKind) -> AllocResult<()>
+    requires room { HasTextRoom 1 found.old }
+    ensures { OnOk result (AreNoted (by_construct at kind.now) found.old found.new) }
+{
+    match kind {
+        ConstructKind::Critical { name } => note_lock(&mut found.locks, found.alloc, name),
+        ConstructKind::Atomic { access } => note_access(&mut found.atomics, at, *access),
+        ConstructKind::Single { .. } | ConstructKind::Masked | ConstructKind::Taskgroup => Ok(()),
     }
 }
 
@@ -316,12 +347,12 @@ fn note_statement(walk: &mut Walk, statement: &ResolvedStatement) -> AllocResult
             note_parts(walk, parts.as_slice())
         }
         ResolvedStatement::Construct {
+            at,
             kind,
             clauses,
             body,
-            ..
         } => {
-            note_construct(&mut walk.found, kind)?;
+            note_construct(&mut walk.found, *at, kind)?;
             note_clauses(&mut walk.found, clauses.as_slice())?;
             note_statement(walk, body)
         }

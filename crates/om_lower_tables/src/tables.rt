@@ -8,13 +8,16 @@ ghost use Rattle.om_lower_rules.specs.Numbering.{numbers_of};
 ghost use Rattle.om_lower_rules.specs.ProgramTables.{IsTablesOf};
 ghost use Rattle.om_lower_tables.specs.Gathered.{AddsBodyNumber, AddsBodyNumbers, AddsCellsOf, HaveCells};
 ghost use Rattle.om_lower_tables.specs.Room.{HasRoom};
-ghost use Rattle.om_lower_tables.specs.Walks.{AddsFunctionEnds, Finds, HasFormats, HasLocks, HaveEnds, HaveFormats, HaveLocks, PassesFunction, by_function, functions_weight, last_numbers};
+ghost use Rattle.om_lower_tables.specs.Walks.{AddsFunctionEnds, Finds, HasAccesses, HasFormats, HasLocks};
+ghost use Rattle.om_lower_tables.specs.Walks.{HaveAccesses, HaveEnds, HaveFormats, HaveLocks, PassesFunction};
+ghost use Rattle.om_lower_tables.specs.Walks.{by_function, functions_weight, last_numbers};
 
 use crate::mentions::{Mentions, Walk, note_statements, put_end};
 use om_lower_rules::{Extents, Numbers, Tables, Texts};
 use om_scope_tree::{Resolved, ResolvedFunction};
 use om_seq::AllocResult;
 use std::alloc::Global;
+use std::collections::BTreeMap;
 
 // A walk over functions, and what each of them has.
 #[derive(Drop)]
@@ -33,6 +36,7 @@ pub fn tables_of(alloc: Global, resolved: &Resolved) -> AllocResult<Tables>
         alloc,
         formats: Texts::new(alloc),
         locks: Texts::new(alloc),
+        atomics: BTreeMap::new(alloc),
         extents: Extents::new(alloc),
     };
     let walk = Walk {
@@ -56,10 +60,16 @@ pub fn tables_of(alloc: Global, resolved: &Resolved) -> AllocResult<Tables>
         numbers,
         ends,
     } = walk;
-    let Mentions { formats, locks, .. } = found;
+    let Mentions {
+        formats,
+        locks,
+        atomics,
+        ..
+    } = found;
     Ok(Tables {
         formats,
         locks,
+        atomics,
         extents,
         bodies,
         behind: numbers,
@@ -76,6 +86,7 @@ fn note_functions(made: &mut Functions, functions: &[ResolvedFunction]) -> Alloc
     ensures behind { OnOk result (numbers_of made.new.walk.numbers ≡ last_numbers functions.now) }
     ensures formats { OnOk result (HaveFormats functions.now made.old.walk made.new.walk) }
     ensures locks { OnOk result (HaveLocks functions.now made.old.walk made.new.walk) }
+    ensures atomics { OnOk result (HaveAccesses functions.now made.old.walk made.new.walk) }
     ensures bodies { OnOk result (AddsBodyNumbers functions.now made.old made.new) }
     ensures ends { OnOk result (HaveEnds functions.now made.old.walk made.new.walk) }
     ensures cells { OnOk result (HaveCells functions.now made.new) }
@@ -93,6 +104,7 @@ fn note_function(made: &mut Functions, function: &ResolvedFunction) -> AllocResu
     ensures behind { OnOk result (PassesFunction function.now made.old.walk made.new.walk) }
     ensures formats { OnOk result (HasFormats function.now made.old.walk made.new.walk) }
     ensures locks { OnOk result (HasLocks function.now made.old.walk made.new.walk) }
+    ensures atomics { OnOk result (HasAccesses function.now made.old.walk made.new.walk) }
     ensures empty { OnOk result (made.new.walk.found.extents ≡ []) }
     ensures bodies { OnOk result (AddsBodyNumber made.old made.new) }
     ensures ends { OnOk result (AddsFunctionEnds function.now made.old.walk made.new.walk) }

@@ -9,6 +9,7 @@ use Rattle.std.proofs.lemmas.Bool.{eqb-true, lt-ltb}
 use Rattle.std.proofs.lemmas.List.Elements.{All-contains}
 use Rattle.std.proofs.lemmas.Option.{slice_get_within}
 use Rattle.om_code.specs.declared.instruction.Instr.TheVariants as i
+use Rattle.om_code.specs.declared.instruction.Sharing.TheVariants as sharings
 use Rattle.om_code.specs.declared.instruction.Place.{Place}
 use Rattle.om_code.specs.declared.instruction.Place.TheVariants as places
 use Rattle.om_code.specs.declared.raw.Body.{Body}
@@ -273,7 +274,13 @@ module _ (tree : ResolvedTree) (raw : Raw) (f : ResolvedFunctionTree) (n : Numbe
           let is_x : y ≡ x = number_is y x slots (ap (λ z. slice_get slots z) (sym same) ∙ within) in (
             h.0,
             subst (λ z. IsDeclared h.0 z (function_places f)) is_x h.1,
-            inr (inr (h.2, h.3, h.4, subst (λ z. laws.IsAt body h.2 (i.Iterate z h.3)) (sym same) h.5)),
+            inr (inr (
+              h.2,
+              h.3,
+              h.4,
+              subst (λ z. laws.IsAt body h.2 (i.Sharing (sharings.Iterate z h.3))) (sym same)
+                  h.5,
+            )),
           )
 
   global : (number : ℕ) → slice_get raw.bodies number ≡ Some body → (p g : ℕ) (line : Line)

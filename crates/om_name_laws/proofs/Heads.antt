@@ -5,6 +5,7 @@ use Rattle.std.specs.Prelude.{if◌then◌else◌}
 use Rattle.om_code.specs.declared.instruction.Comparison.{Comparison}
 use Rattle.om_code.specs.declared.instruction.Instr.{Instr}
 use Rattle.om_code.specs.declared.instruction.Instr.TheVariants as i
+use Rattle.om_code.specs.declared.instruction.Sharing.TheVariants as sharings
 use Rattle.om_scope_rules.specs.TreePlaces.{clause_places}
 use Rattle.om_scope_tree.specs.declared.resolved.GlobalVariable.{GlobalVariable}
 use Rattle.om_scope_tree.specs.declared.resolved.Variable.{Variable}
@@ -117,7 +118,7 @@ module _ (at : Site) (globals : List GlobalVariable) (Q : List ℕ → ℕ → T
   -- these may read the variable of the loop, whose ITER stands behind them
   bound : (own : List Known) → In own → (k : Known) → Q k.name k.at → (p n q g l e : ℕ)
       → Runs at.code (Named at (IsSeen globals (k ∷ own ++ outer))) p n q → q ≤ g
-      → slice_get at.code g ≡ Some (record { instruction = i.Iterate (slot_of at.slots k.at) e; line = l })
+      → slice_get at.code g ≡ Some (record { instruction = i.Sharing (sharings.Iterate (slot_of at.slots k.at) e); line = l })
       → Coding own p q
   bound own of k named_k p n q g l e run le iter =
       let long = run.long in
@@ -152,7 +153,7 @@ module _ (at : Site) (globals : List GlobalVariable) (Q : List ℕ → ℕ → T
             g,
             e,
             lt,
-            (l, iter ∙ ap (λ z. Some (record { instruction = i.Iterate (slot_of at.slots z) e; line = l })) there),
+            (l, iter ∙ ap (λ z. Some (record { instruction = i.Sharing (sharings.Iterate (slot_of at.slots z) e); line = l })) there),
           ))
       meant r (named.Global n) name lt false same seen here =
           inl (parts.told_seen at globals Q outer all own of r name (named.Global n)
@@ -167,7 +168,7 @@ module _ (at : Site) (globals : List GlobalVariable) (Q : List ℕ → ℕ → T
       globals (own ++ outer) loop
       → (p m q m' q' g l e : ℕ) → value at loop.at.line loop.from p m → value at loop.at.line loop.to m q → q ≤ g
       → slice_get at.code g
-      ≡ Some (record { instruction = i.Iterate (slot_of at.slots loop.variable.at) e; line = l })
+      ≡ Some (record { instruction = i.Sharing (sharings.Iterate (slot_of at.slots loop.variable.at) e); line = l })
       → value at loop.at.line loop.from p m'
       → (m' ≡ m) × Coding own p m × Coding own m q × (value at loop.at.line loop.to m q' → q' ≡ q)
   bounds own of loop hv (inl u) p m q m' q' g l e from to le iter from' =

@@ -4,6 +4,8 @@ use Rattle.std.proofs.Common.{Some, IfSome, inl, inr, refl, sym, ap, subst, arit
 use Rattle.std.specs.Option.{option_or}
 use Rattle.om_code.specs.declared.instruction.Instr.{Instr}
 use Rattle.om_code.specs.declared.instruction.Instr.TheVariants as i
+use Rattle.om_code.specs.declared.instruction.Serial.TheVariants as serials
+use Rattle.om_code.specs.declared.instruction.Sharing.TheVariants as sharings
 use Rattle.om_code.specs.declared.instruction.Place.{Place}
 use Rattle.om_code.specs.declared.raw.Line.{Line}
 use Rattle.om_scope_rules.specs.TreePlaces.{clause_places, declarator_place, start_places}
@@ -68,13 +70,13 @@ module _ (at : Site) (globals : List GlobalVariable) (Q : List ℕ → ℕ → T
   IsCopied r x =
       (copy : LocalVariable) × HasName copy.name x × Q copy.name copy.at
       × (closed_meaning r copy.name all ≡ Some (known_scalar copy))
-      × Stands (r + 1) (i.Store (place at (named.Local copy.at)) false)
+      × Stands (r + 1) (i.Serial (serials.Store (place at (named.Local copy.at)) false))
 
   -- a bound reads the variable of its own loop
   abbrev pub IsEarly : ℕ → Variable → Type 0
   IsEarly r (named.Global n) = ⊥
   IsEarly r (named.Local x) =
-      (name : List ℕ) × Q name x × (g e : ℕ) × (r < g) × Stands g (i.Iterate (slot_of at.slots x) e)
+      (name : List ℕ) × Q name x × (g e : ℕ) × (r < g) × Stands g (i.Sharing (sharings.Iterate (slot_of at.slots x) e))
 
   abbrev pub Meant : ℕ → Place → Type 0
   Meant r pl = (x : Variable) × (pl ≡ place at x) × (IsTold r x ⊎ (IsCopied r x ⊎ IsEarly r x))
@@ -283,15 +285,16 @@ module _ (at : Site) (globals : List GlobalVariable) (Q : List ℕ → ℕ → T
 
   -- the load of an original, in front of the store into its copy
   code_copied : (own : List Known) (p l : ℕ) (x : Variable) (copy : LocalVariable) → HasName copy.name x
-      → Q copy.name copy.at → slice_get at.code p ≡ Some (record { instruction = i.Load (place at x); line = l })
+      → Q copy.name copy.at
+      → slice_get at.code p ≡ Some (record { instruction = i.Serial (serials.Load (place at x)); line = l })
       → slice_get at.code (p + 1)
-      ≡ Some (record { instruction = i.Store (place at (named.Local copy.at)) false; line = l })
+      ≡ Some (record { instruction = i.Serial (serials.Store (place at (named.Local copy.at)) false); line = l })
       → Coding (known_scalar copy ∷ own) p (p + 1)
   code_copied own p l x copy has q load store = record {
     long = omega arith;
     fine = λ s r lo hi line is.
         let here : r ≡ p = omega (arith, lo, hi) in
-        let same : record { instruction = i.Load (place at x); line = l } ≡ line =
+        let same : record { instruction = i.Serial (serials.Load (place at x)); line = l } ≡ line =
         cc (load, ap (λ z. slice_get at.code z) here, is) in
         subst (λ (z : Line). IfSome (named_place z.instruction) (Meant r)) same (
           x,

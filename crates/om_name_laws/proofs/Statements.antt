@@ -347,12 +347,13 @@ module _ (at : Site) (globals : List GlobalVariable) (Q : List ℕ → ℕ → T
         (λ m' e. omega (arith, e))
         (λ q2 g e. statement_fits s own of seen rest n nowhere (p + 1 + 1) m2 q2 g y.1 e)
         (heads.gap at globals Q outer all own of m2 l _ y.2.0 refl) y.2.1 t
-    statement_fits (Construct first constructs.Atomic cs (Expression second e)) own of u h n jumps p q q' f r s =
+    statement_fits (Construct first (constructs.Atomic access) cs (Expression second e)) own of u h n jumps p q q' f r
+        s =
         let l = first.line in
         let seen = subst (λ z. EachUse (IsSeen globals z) e) (no_copies cs (own ++ outer) u.1) u.2 in
         heads.leaf at globals Q outer all own of p (effect_size e) q q' f (effect_ran at (Seen own) l e seen p q r)
         (effect_ran at (Seen own) l e seen p q' s.0) s.1
-    statement_fits (Construct first constructs.Atomic cs _) own of u h n jumps p q q' f r s = absurd r
+    statement_fits (Construct first (constructs.Atomic access) cs _) own of u h n jumps p q q' f r s = absurd r
     statement_fits (Construct first constructs.Taskgroup cs s) own of u h n jumps p q q' f r t =
         let l = first.line in
         let rest = places_back Q (flat_map clause_places cs) (statement_places s) h in

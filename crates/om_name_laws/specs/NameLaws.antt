@@ -3,6 +3,8 @@
 use Rattle.std.specs.Prelude.{◌≡◌, ◌<◌, ◌⊎◌, ℕ, ◌+◌, List, [], ◌∷◌, Option, None, Some, Contains, false, slice_get}
 use Rattle.om_code.specs.declared.instruction.Instr.{Instr}
 use Rattle.om_code.specs.declared.instruction.Instr.TheVariants as i
+use Rattle.om_code.specs.declared.instruction.Serial.TheVariants as serials
+use Rattle.om_code.specs.declared.instruction.Sharing.TheVariants as sharings
 use Rattle.om_code.specs.declared.instruction.Place.{Place}
 use Rattle.om_code.specs.declared.instruction.Place.TheVariants as places
 use Rattle.om_code.specs.declared.raw.Body.{Body}
@@ -22,14 +24,14 @@ use Rattle.om_name_laws.specs.Sees.{SeesNames, global_as}
 
 -- the variable that an instruction reads or writes, where that is one alone: RED names a copy and its original
 abbrev pub named_place : Instr → Option Place
-named_place (i.Load place) = Some place
-named_place (i.Store place keeps) = Some place
-named_place (i.LoadElement place) = Some place
-named_place (i.StoreElement place keeps) = Some place
-named_place (i.Clear slot) = Some (places.Slot slot)
-named_place (i.Atomic operator side place) = Some place
-named_place (i.AtomicElement operator side place) = Some place
-named_place (i.Iterate slot otherwise) = Some (places.Slot slot)
+named_place (i.Serial (serials.Load place)) = Some place
+named_place (i.Serial (serials.Store place keeps)) = Some place
+named_place (i.Serial (serials.LoadElement place)) = Some place
+named_place (i.Serial (serials.StoreElement place keeps)) = Some place
+named_place (i.Serial (serials.Clear slot)) = Some (places.Slot slot)
+named_place (i.Serial (serials.Atomic operator side place)) = Some place
+named_place (i.Serial (serials.AtomicElement operator side place)) = Some place
+named_place (i.Sharing (sharings.Iterate slot otherwise)) = Some (places.Slot slot)
 named_place _ = None
 
 -- one of these places is a variable of this name that is declared, or copied, at this byte
@@ -54,11 +56,11 @@ abbrev pub IsCopied : Raw → ResolvedFunctionTree → Numbers → (number : ℕ
 IsCopied raw f n number body p name =
     (copy : ℕ) × IsDeclared name copy (function_places f)
     × (variable_at raw number p name ≡ slot_var None (slot_among (variables_of (function_site f n)) copy))
-    × IsAt body (p + 1) (i.Store (place_of (variables_of (function_site f n)) (named.Local copy)) false)
+    × IsAt body (p + 1) (i.Serial (serials.Store (place_of (variables_of (function_site f n)) (named.Local copy)) false))
 
 -- A bound that reads the variable of its own loop: the ITER of this variable stands behind it.
 abbrev pub IsEarly : Body → (p slot : ℕ) → Type 0
-IsEarly body p slot = (at other : ℕ) × (p < at) × IsAt body at (i.Iterate slot other)
+IsEarly body p slot = (at other : ℕ) × (p < at) × IsAt body at (i.Sharing (sharings.Iterate slot other))
 
 -- ---- the law
 

@@ -22,7 +22,7 @@ use om_scope_parts::copy_of;
 use om_scope_rules::update_of;
 use om_scope_symbols::{is_parallel, traits_of};
 use om_scope_tree::{
-    Capture, ConstructKind, RegionKind, ResolvedClause, ResolvedLoop, ResolvedPart,
+    AtomicAccess, Capture, ConstructKind, RegionKind, ResolvedClause, ResolvedLoop, ResolvedPart,
     ResolvedSchedule, ResolvedStatement, Side, TaskSharing, captures_of_parallel, captures_of_task,
 };
 use om_seq::{AllocResult, Seq};
@@ -136,8 +136,12 @@ fn around_atomic(kind: AtomicKind, side: Side) -> Around
 {
     match kind {
         AtomicKind::Update => Around::Update(side),
-        AtomicKind::Read => Around::Construct(ConstructKind::Atomic),
-        AtomicKind::Write => Around::Construct(ConstructKind::Atomic),
+        AtomicKind::Read => Around::Construct(ConstructKind::Atomic {
+            access: AtomicAccess::Read,
+        }),
+        AtomicKind::Write => Around::Construct(ConstructKind::Atomic {
+            access: AtomicAccess::Write,
+        }),
     }
 }
 

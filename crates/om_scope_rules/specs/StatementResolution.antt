@@ -22,6 +22,7 @@ use Rattle.om_pragma.specs.declared.tree.Directive.{Directive}
 use Rattle.om_pragma.specs.declared.tree.DirectiveName.{DirectiveName}
 use Rattle.om_pragma.specs.declared.tree.DirectiveName.TheVariants as directives
 use Rattle.om_pragma.specs.Questions.{atomic_kind, has_clause}
+use Rattle.om_scope_tree.specs.declared.resolved.AtomicAccess.TheVariants as accesses
 use Rattle.om_scope_tree.specs.declared.resolved.ConstructKind.TheVariants as constructs
 use Rattle.om_scope_tree.specs.declared.resolved.CopyKind.{CopyKind}
 use Rattle.om_scope_tree.specs.declared.resolved.CopyKind.TheVariants as copies
@@ -152,8 +153,8 @@ with_update at (Some update) = Some (resolved.Update at update)
 abbrev pub atomic_of : AtomicKind → Side → Span → List ResolvedClauseTree → ResolvedStatementTree
     → Option ResolvedStatementTree
 atomic_of atomics.Update side at cs body = with_update at (update_of side body)
-atomic_of atomics.Read side at cs body = Some (resolved.Construct at constructs.Atomic cs body)
-atomic_of atomics.Write side at cs body = Some (resolved.Construct at constructs.Atomic cs body)
+atomic_of atomics.Read side at cs body = Some (resolved.Construct at (constructs.Atomic accesses.Read) cs body)
+atomic_of atomics.Write side at cs body = Some (resolved.Construct at (constructs.Atomic accesses.Write) cs body)
 
 -- of a directive for one statement, which every construct of a well-formed tree has; those for a loop stand below
 unfoldable pub construct_of : Option ℕ → Side → Directive ExpressionTree → DirectiveName → List ResolvedClauseTree

@@ -50,7 +50,7 @@ Assigns (Expression at e) = IsAssignment e
 Assigns _ = ⊥
 
 abbrev pub ConstructAssigns : ConstructKind → ResolvedStatementTree → Type 0
-ConstructAssigns constructs.Atomic s = Assigns s
+ConstructAssigns (constructs.Atomic access) s = Assigns s
 ConstructAssigns _ s = Unit {0}
 
 -- an `atomic` that reads or writes is about an assignment

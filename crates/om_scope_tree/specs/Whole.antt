@@ -185,7 +185,7 @@ of_construct constructs.Masked = record {
   reductions = false;
 }
 of_construct (constructs.Critical name) = nothing
-of_construct constructs.Atomic = nothing
+of_construct (constructs.Atomic access) = nothing
 of_construct constructs.Taskgroup = nothing
 
 abbrev pub IsAdmittedCopy : Admitted → CopyKind → Type 0

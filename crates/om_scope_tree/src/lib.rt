@@ -27,8 +27,8 @@ pub mod uses;
 
 pub use captures::{TaskSharing, captures_of_parallel, captures_of_task};
 pub use resolved::{
-    Capture, ConstructKind, CopyKind, GlobalVariable, LocalVariable, RegionKind, Resolved,
-    ResolvedClause, ResolvedDeclarator, ResolvedExpression, ResolvedFunction, ResolvedHead,
-    ResolvedLoop, ResolvedPart, ResolvedSchedule, ResolvedStart, ResolvedStatement, ResolvedUpdate,
-    Shape, Side, StandAlone, Taking, UnaryOperator, UpdateOperator, Variable,
+    AtomicAccess, Capture, ConstructKind, CopyKind, GlobalVariable, LocalVariable, RegionKind,
+    Resolved, ResolvedClause, ResolvedDeclarator, ResolvedExpression, ResolvedFunction,
+    ResolvedHead, ResolvedLoop, ResolvedPart, ResolvedSchedule, ResolvedStart, ResolvedStatement,
+    ResolvedUpdate, Shape, Side, StandAlone, Taking, UnaryOperator, UpdateOperator, Variable,
 };

@@ -248,9 +248,20 @@ pub enum ConstructKind {
         name: Option<Seq<u8>>,
     },
     /// `atomic read` or `atomic write`, whose statement is an assignment.
-    Atomic,
+    Atomic {
+        access: AtomicAccess,
+    },
     /// `taskgroup`
     Taskgroup,
+}
+
+/// What the assignment of an `atomic` does in one (OpenMP API 5.2, section 15.8.4).
+#[derive(Clone, Copy)]
+pub enum AtomicAccess {
+    /// `read`: it loads the variable on its right.
+    Read,
+    /// `write`: it stores into the variable on its left.
+    Write,
 }
 
 /// The operator of an atomic update.

@@ -212,10 +212,11 @@ fn cone<'a>(alloc: Global) -> Arg<'a> {
 // What is said of both subcommands that look at all schedules.
 const SCHEDULES: &str =
     "Complete speaks of the schedules of a machine: N workers, one instruction a step, and memory that all see in one
-order. A ready task is begun at a barrier, at a wait, at a yield and where a task or a thread ends. Accesses meet
-where two workers stand before them at one moment, and one of them stores. A pair that meets is a data race, unless
-both accesses are under `atomic`: those of `atomic read` and `atomic write` count as plain ones here. Accesses that
-only a chunk of a loop, a section or a `single` orders never meet.";
+order. A ready task is begun at a barrier, at a wait, at a yield and where a task or a thread ends. A schedule that
+goes on for ever comes to no end and is not told: status 0 does not say that each schedule ends. Accesses meet where
+two workers stand before them at one moment, and one of them stores or ends the life of the variable. Two accesses of
+`atomic` do not, nor do two reductions that combine their copies with one variable. A pair that meets is a data race.
+Accesses that only a chunk of a loop, a section, a `single` or accesses of `atomic` order never meet.";
 
 fn explore<'a>(alloc: Global) -> AllocResult<Command<'a>> {
     let command = Command::new(alloc, "explore")
@@ -244,7 +245,7 @@ fn states<'a>(alloc: Global) -> Arg<'a> {
         alloc,
         "states",
         "M",
-        "How many states are stored at most; where there are more, the answer is not complete",
+        "How many states are looked at; where there are more, the answer is not complete",
     )
     .default_value("1000000")
 }

@@ -719,7 +719,7 @@ statement-returns-in-Atomic-clause-scopes t c =
 pub statement-returns-in-Atomic-clause-behind : goal.statement-returns-in-Atomic-clause-behind
 statement-returns-in-Atomic-clause-behind t c =
     atomic_ends _ _ (numbers_of c.args.spot.numbers) c.args.tree.now c.in-Construct.at c.in-Construct.kind
-    c.in-Construct.clauses c.in-Construct.body c.in-Construct.is c.in-Atomic.is c.requires.code
+    c.in-Atomic.access c.in-Construct.clauses c.in-Construct.body c.in-Construct.is c.in-Atomic.is c.requires.code
 
 pub statement-begin_parts-requires : goal.statement-begin_parts-requires
 statement-begin_parts-requires t c = record {

@@ -178,7 +178,8 @@ note_statement-note_statement-requires-in-Construct t c = (
     weight_construct _ _ _ _ _ c.in-Construct.is,
     ap (λ xs. sum (map clause_weight (map view.clause xs))) c.as_slice-in-Construct.ensures.value,
     ap all_weight_of c.deref-in-Construct.ensures,
-    construct_behind c.in-Construct.kind c.args.walk.now.found c.note_construct.new.found c.in_ok-note_construct-in-Construct.ensures,
+    construct_behind c.in-Construct.at c.in-Construct.kind c.args.walk.now.found c.note_construct.new.found
+        c.in_ok-note_construct-in-Construct.ensures,
     clauses_behind (map view.clause c.as_slice-in-Construct.result.now) c.note_construct.new.found c.note_clauses-in-Construct.new.found c.in_ok-note_clauses-in-Construct.ensures,
     c.requires.room,
   ),
@@ -221,7 +222,8 @@ note_statement-note_clauses-requires-in-Construct t c =
       arith,
       weight_construct _ _ _ _ _ c.in-Construct.is,
       ap (λ xs. sum (map clause_weight (map view.clause xs))) c.as_slice-in-Construct.ensures.value,
-      construct_behind c.in-Construct.kind c.args.walk.now.found c.note_construct.new.found c.in_ok-note_construct-in-Construct.ensures,
+      construct_behind c.in-Construct.at c.in-Construct.kind c.args.walk.now.found c.note_construct.new.found
+          c.in_ok-note_construct-in-Construct.ensures,
       c.requires.room,
     )
 
@@ -419,7 +421,7 @@ note_statements-loop-item-preserved t c = (
         c.in_ok-note_statement.ensures.behind c.in_ok-note_statement.ensures.noted,
     c.loop-item.invariant.2,
   ),
-  (grind (arith, common_steps), grind (arith, common_steps), grind (arith, common_steps)),
+  (grind (arith, common_steps), grind (arith, common_steps), grind (arith, common_steps), grind (arith, common_steps)),
 )
 
 pub note_parts-loop-part-preserved : goal.note_parts-loop-part-preserved

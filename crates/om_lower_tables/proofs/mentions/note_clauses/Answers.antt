@@ -28,5 +28,5 @@ loop-clause-preserved c = (
         c.in_ok-note_clause.ensures,
     c.loop-clause.invariant.0,
   ),
-  (grind (arith, common_steps), grind (arith, common_steps), grind (arith, common_steps)),
+  (grind (arith, common_steps), grind (arith, common_steps), grind (arith, common_steps), grind (arith, common_steps)),
 )

@@ -3,7 +3,7 @@ use Rattle.std.proofs.lemmas.Grind.{common_steps}
 use Rattle.om_scope_tree.specs.ResolvedView as view
 use Rattle.om_scope_tree.specs.Weights.{declarator_weight}
 use Rattle.om_lower_tables.specs.Room.{IsRoomFor}
-use Rattle.om_lower_tables.proofs.Rooms.{perhaps_behind}
+use Rattle.om_lower_tables.proofs.Rooms.{perhaps_texts}
 use Rattle.om_lower_tables.proofs.Weights.{sum_left}
 use Rattle.om_lower_tables.proofs.mentions.note_declarators.Goals as goal
 
@@ -14,9 +14,9 @@ loop-declarator-preserved c = (
     arith,
     sum_left declarator_weight view.declarator c.args.declarators.now c.loop-declarator.declarator-index
         c.declarator-item.result c.loop-declarator-test.true c.declarator-item.is,
-    perhaps_behind (option_map view.expression c.declarator-item.result.initial) _ _
-        c.in_ok-note_perhaps.ensures,
+    perhaps_texts (option_map view.expression c.declarator-item.result.initial) _ _ _ _
+        c.in_ok-note_perhaps.ensures.0 c.in_ok-note_perhaps.ensures.1,
     c.loop-declarator.invariant.0,
   ),
-  (grind (arith, common_steps), grind (arith, common_steps), grind (arith, common_steps)),
+  (grind (arith, common_steps), grind (arith, common_steps), grind (arith, common_steps), grind (arith, common_steps)),
 )

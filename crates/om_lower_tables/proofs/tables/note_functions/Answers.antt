@@ -5,11 +5,11 @@ use Rattle.om_scope_tree.specs.ResolvedView as view
 use Rattle.om_scope_tree.specs.Weights.{function_weight}
 use Rattle.om_lower_rules.specs.Bodies.{behind_functions}
 use Rattle.om_lower_rules.specs.Ends.{ends_from, function_ends}
-use Rattle.om_lower_rules.specs.Mentions.{format_mention, function_mentioned, lock_mention}
+use Rattle.om_lower_rules.specs.Mentions.{access_mention, format_mention, function_mentioned, lock_mention}
 use Rattle.om_lower_rules.specs.Numbering.{function_numbers, numbers_of}
-use Rattle.om_lower_tables.specs.Noted.{noted}
+use Rattle.om_lower_tables.specs.Noted.{accessed, noted}
 use Rattle.om_lower_tables.specs.Room.{IsRoomFor}
-use Rattle.om_lower_tables.proofs.Noting.{Onward, cells_done, cells_next, noted_further}
+use Rattle.om_lower_tables.proofs.Noting.{Onward, accessed_further, cells_done, cells_next, noted_further}
 use Rattle.om_lower_tables.proofs.Rooms.{function_behind}
 use Rattle.om_lower_tables.proofs.Weights.{next_left, sum_left}
 use Rattle.om_lower_tables.proofs.tables.note_functions.Goals as goal
@@ -46,6 +46,7 @@ loop-function-preserved c =
     let next = c.in_ok-note_function.ensures in
     let formats = function_mentioned format_mention in
     let locks = function_mentioned lock_mention in
+    let accesses = function_mentioned access_mention in
     let ends = map numbers_of old.walk.ends.items in (
       ap (λ b. behind_functions b rest) next.behind ∙ ap (λ fs. behind_functions n fs) (sym here)
           ∙ c.loop-function.invariant.0,
@@ -75,4 +76,8 @@ loop-function-preserved c =
       cells_next (map view.function c.args.functions.now) rest f old.extents.items new.extents.items
           (subst (λ fs. Onward (map view.function c.args.functions.now) fs old.extents.items) here
           c.loop-function.invariant.7) next.cells,
+      ap (λ lines. accessed lines (flat_map accesses rest)) next.atomics
+          ∙ sym (accessed_further old.walk.found.atomics.entries (accesses f) (flat_map accesses rest))
+          ∙ ap (λ fs. accessed old.walk.found.atomics.entries (flat_map accesses fs)) (sym here)
+          ∙ c.loop-function.invariant.8,
     )

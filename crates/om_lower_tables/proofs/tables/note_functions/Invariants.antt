@@ -4,10 +4,10 @@ use Rattle.std.specs.List.{AllZip, flat_map}
 use Rattle.om_scope_tree.specs.ResolvedView as view
 use Rattle.om_scope_tree.specs.Weights.{function_weight}
 use Rattle.om_lower_rules.specs.Bodies.{behind_functions, first_numbers}
-use Rattle.om_lower_rules.specs.Mentions.{format_mention, function_mentioned, lock_mention}
+use Rattle.om_lower_rules.specs.Mentions.{access_mention, format_mention, function_mentioned, lock_mention}
 use Rattle.om_lower_rules.specs.Slots.{Extent}
 use Rattle.om_lower_rules.specs.Ends.{ends_from}
-use Rattle.om_lower_tables.specs.Noted.{noted}
+use Rattle.om_lower_tables.specs.Noted.{accessed, noted}
 use Rattle.om_lower_tables.specs.Room.{HasRoom}
 use Rattle.om_lower_rules.specs.Numbering.{function_numbers, numbers_of}
 use Rattle.om_lower_rules.specs.ProgramTables.{AreCellsOf}
@@ -29,3 +29,5 @@ invariant-loop-function l =
     × (map numbers_of l.made.walk.ends.items ++ ends_from (numbers_of l.made.walk.numbers) left
     ≡ map numbers_of l.fn.made.walk.ends.items ++ ends_from first_numbers all)
     × ((rest : List (List Extent)) → AllZip AreCellsOf left rest → AllZip AreCellsOf all (l.made.extents.items ++ rest))
+    × (accessed l.made.walk.found.atomics.entries (flat_map (function_mentioned access_mention) left)
+    ≡ accessed l.fn.made.walk.found.atomics.entries (flat_map (function_mentioned access_mention) all))

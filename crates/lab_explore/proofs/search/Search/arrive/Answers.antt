@@ -1,4 +1,4 @@
-use Rattle.std.proofs.Common.{◌≡◌, refl, sym, ◌∙◌, ap, subst, true, false, rules, List, map}
+use Rattle.std.proofs.Common.{◌≡◌, refl, sym, ◌∙◌, ap, subst, true, false, rules, List, map, ◌+◌}
 use Rattle.om_state.specs.declared.step.Label.{Label}
 use Rattle.om_undo.specs.Machines.{MachineView, state_in, with_undo}
 use Rattle.lab_explore_states.specs.Sets.{seen}
@@ -39,7 +39,8 @@ returns-then-not-is_new-clause-arrives c =
     (made_back x.machine.program x.machine.workers l (acts_of x) x y m (seen c.take.new.self) (seen c.insert.new.self)
     c.requires.search more c.in_ok-take.ensures.follows there.0 there.1
     (c.undo_last.ensures.machine ∙ ap (with_undo m) c.worker-worker.ensures) c.undo_last.ensures.stored
-    c.undo_last.ensures.notes))
+    c.undo_last.ensures.notes c.undo_last.ensures.steps
+    (λ is. c.goes_round.ensures (sym c.undo_last.ensures.round ∙ is))))
 
 pub returns-else-not-is_new-clause-arrives : goal.returns-else-not-is_new-clause-arrives
 returns-else-not-is_new-clause-arrives c =
@@ -50,7 +51,8 @@ returns-else-not-is_new-clause-arrives c =
       stored = c.insert.new.self;
       todos = x.todos;
       notes = x.notes;
-      steps = c.saturating_add-self.result;
+      goes_round = x.goes_round;
+      steps = x.steps + 1;
     } in
     let new : c.in_ok-is_new.is_new ≡ true = search rules in
     let more : IsOneMore x.machine l y.machine =
@@ -58,4 +60,4 @@ returns-else-not-is_new-clause-arrives c =
     (one_more_made x.machine l c.requires.possible) in
     arrives_new x.machine.program x.machine.workers l c.in_ok-is_new.is_new y new
     (made_known x.machine.program x.machine.workers l (acts_of x) x y (seen c.take.new.self) c.requires.search more
-    c.in_ok-take.ensures.follows refl c.in_ok-is_new.is_new c.in_ok-is_new.ensures.inserted new)
+    c.in_ok-take.ensures.follows refl refl refl c.in_ok-is_new.is_new c.in_ok-is_new.ensures.inserted new)

@@ -22,4 +22,5 @@ returns-clause-search c =
     subst (λ (more : List Act). IsSearch x.machine.program x.machine.workers more y)
     (sym (ap (map act_of) c.undo_last.ensures.todos))
     (gone_back x.machine.program x.machine.workers c.args.worker (acts_of x) x y c.requires
-    c.undo_last.ensures.machine c.undo_last.ensures.stored c.undo_last.ensures.notes)
+    c.undo_last.ensures.machine c.undo_last.ensures.stored c.undo_last.ensures.notes c.undo_last.ensures.steps
+    c.undo_last.ensures.round)

@@ -15,6 +15,7 @@ returns-clause-search c =
       stored = x.stored;
       todos = c.push_tries.new.todos;
       notes = c.note.new.self;
+      goes_round = x.goes_round;
       steps = x.steps;
     } in
     let steps : List PossibleStep = c.in_ok-steps.steps.items in
@@ -23,4 +24,5 @@ returns-clause-search c =
     ∙ ap (λ (ps : List PossibleStep). tries (map label_of_possible ps) (acts_of x)) c.as_slice-2.ensures.value in
     subst (λ (more : List Act). IsSearch x.machine.program x.machine.workers more y) (sym acts)
     (looked_around x.machine.program x.machine.workers (acts_of x) x y steps c.requires c.in_ok-steps.ensures refl refl
+    refl refl
     c.note.ensures.sound c.note.ensures.keeps c.in_ok-note.ensures.noted)

@@ -43,3 +43,4 @@ returns-in-None-clause-goes_on c =
     let none : acts_of x ≡ [] =
     ap (map act_of) (none_popped x.todos (sym c.in-None.is ∙ c.pop.ensures.top)) in
     complete x.machine.program x.machine.workers c.args.limits.now (acts_of x) x y c.requires.search none refl refl
+    refl refl

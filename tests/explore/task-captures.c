@@ -1,0 +1,10 @@
+#include <stdio.h>
+
+int main(void)
+{
+#pragma omp parallel num_threads(2)
+#pragma omp single
+    for (int i = 0; i < 2; i++)
+#pragma omp task
+        printf("%d", i);
+}

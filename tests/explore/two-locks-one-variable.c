@@ -1,0 +1,16 @@
+int x;
+
+int main(void)
+{
+#pragma omp parallel num_threads(2)
+    {
+        if (omp_get_thread_num() == 0) {
+#pragma omp critical(a)
+            x += 1;
+        } else {
+#pragma omp critical(b)
+            x += 10;
+        }
+    }
+    return x;
+}
