@@ -9,7 +9,7 @@ use crate::sections::{Given, cut};
 use lab_check::{Report, report};
 use lab_draw::{Page, page};
 use lab_explore_answer::Subject;
-use lab_macros::{Expanded, Place, expanded};
+use lab_macros::{Expanded, Place, expand};
 use lab_notes::annotate;
 use lab_script::{Script, ScriptFault, cone, script};
 use lab_text::status::{BAD, DONE, REFUSED, WORDS};
@@ -125,7 +125,7 @@ fn plain<R: Threads + Wait + Sync>(
         most,
         first: 1,
     };
-    match expanded(rt, alloc, &place, given.input.unwrap_or(&[]))? {
+    match expand(rt, alloc, &place, given.input.unwrap_or(&[]))? {
         Expanded::Commands { lines, told } => Ok(Written {
             status: DONE,
             text: lines,

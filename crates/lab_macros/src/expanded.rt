@@ -50,7 +50,7 @@ pub enum Expanded {
 /// another place each time.
 ///
 /// Faults are those of the debugger, H3 and H5.
-pub fn expanded<H: Threads + Wait + Sync>(
+pub fn expand<H: Threads + Wait + Sync>(
     rt: &H,
     alloc: Global,
     place: &Place<'_>,

@@ -12,4 +12,4 @@ mod said;
 mod until;
 mod walk;
 
-pub use expanded::{Expanded, Place, expanded};
+pub use expanded::{Expanded, Place, expand};

@@ -6,7 +6,7 @@ ghost use Rattle.lab_macros.specs.Untils.{cell_marks, far, global_marks, line_ma
 
 use crate::asked::{line_in, variable_in, worker_in};
 use crate::said::{Said, commands_said, push_times, words_said};
-use crate::walk::{Miss, Walk, walk};
+use crate::walk::{Miss, Walk, walk_to};
 use om_book::Book;
 use om_code::Program;
 use om_seq::{AllocResult, Seq};
@@ -56,7 +56,7 @@ fn until_by(
     requires in_range { worker < book.old.start.workers }
     ensures { IfOk result (λ said. said ≡ until_by most worker marks.now book.old) }
 {
-    match walk(alloc, book, marks, worker, most)? {
+    match walk_to(alloc, book, marks, worker, most)? {
         Walk::There(steps) => walked(alloc, worker, steps),
         Walk::Missed(miss) => missed(alloc, most, miss),
     }

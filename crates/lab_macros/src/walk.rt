@@ -61,7 +61,7 @@ fn stride_by(stop: Option<Stop>) -> Stride
 }
 
 // Makes a worker's next step, where it can be made and recorded.
-fn stride(alloc: Global, book: &mut Book, marks: &Marks, worker: u8) -> AllocResult<Stride>
+fn make_stride(alloc: Global, book: &mut Book, marks: &Marks, worker: u8) -> AllocResult<Stride>
     requires in_range { worker < book.old.start.workers }
     ensures stride { IfOk result (λ stride. stride ≡ stride_of marks.now worker book.old) }
     ensures after { OnOk result (book.new ≡ behind_stride worker book.old) }
@@ -81,7 +81,7 @@ fn stride(alloc: Global, book: &mut Book, marks: &Marks, worker: u8) -> AllocRes
 
 /// Makes a worker's steps up to where marks stop them, so many at most, and says how many lead there. The only error is
 /// out of memory.
-pub(crate) fn walk(
+pub(crate) fn walk_to(
     alloc: Global,
     book: &mut Book,
     marks: &Marks,
@@ -94,7 +94,7 @@ pub(crate) fn walk(
     let mut left = most;
     let mut made = 0;
     'steps: while left > 0 {
-        match stride(alloc, book, marks, worker)? {
+        match make_stride(alloc, book, marks, worker)? {
             Stride::On => {}
             Stride::There => return Ok(Walk::There(made + 1)),
             Stride::Missed(miss) => return Ok(Walk::Missed(miss)),

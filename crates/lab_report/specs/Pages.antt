@@ -1,10 +1,10 @@
 -- The page of a report: its texts below their headings.
 use Rattle.std.specs.Prelude.{ℕ, Bool, List, [], ◌++◌, Option, None, Some, if◌then◌else◌, codes}
 use Rattle.lab_draw.specs.Escapes.{escaped}
-use Rattle.lab_report.specs.declared.report.Hunt.{Hunt}
-use Rattle.lab_report.specs.declared.report.Report.{Report}
-use Rattle.lab_report.specs.declared.report.Shown.{Shown}
-use Rattle.lab_report.specs.declared.report.Trial.{Trial}
+use Rattle.lab_report.specs.declared.told.Hunt.{Hunt}
+use Rattle.lab_report.specs.declared.told.Report.{Report}
+use Rattle.lab_report.specs.declared.told.Shown.{Shown}
+use Rattle.lab_report.specs.declared.told.Trial.{Trial}
 
 abbrev pub heading_text : List ℕ → List ℕ
 heading_text heading = codes "<h2>" ++ heading ++ codes "</h2>\n"

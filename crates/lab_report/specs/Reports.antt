@@ -6,10 +6,10 @@ use Rattle.lab_explore_answer.specs.declared.asked.Finding.TheVariants.{AllWell,
 use Rattle.lab_port_answer.specs.declared.answered.Answer.{Answer}
 use Rattle.lab_port_answer.specs.Answers.{Answers}
 use Rattle.lab_text.specs.declared.report.Report as checks
-use Rattle.lab_report.specs.declared.report.Asked.{Asked}
-use Rattle.lab_report.specs.declared.report.Hunt.{Hunt}
-use Rattle.lab_report.specs.declared.report.Report.{Report}
-use Rattle.lab_report.specs.declared.report.Trial.{Trial}
+use Rattle.lab_report.specs.declared.told.Asked.{Asked}
+use Rattle.lab_report.specs.declared.told.Hunt.{Hunt}
+use Rattle.lab_report.specs.declared.told.Report.{Report}
+use Rattle.lab_report.specs.declared.told.Trial.{Trial}
 use Rattle.lab_report.specs.Hidings.{Hides}
 use Rattle.lab_report.specs.Trials.{IsTriedBy}
 

@@ -8,7 +8,7 @@ use Rattle.lab_draw.specs.declared.outcome.Page.TheVariants as page
 use Rattle.lab_notes.specs.Passing.{PassesAll}
 use Rattle.lab_script.specs.Runs.{IsRun}
 use Rattle.lab_script.specs.Sessions.{AreSteps, IsRefusal}
-use Rattle.lab_report.specs.declared.report.Shown.{Shown}
+use Rattle.lab_report.specs.declared.told.Shown.{Shown}
 
 -- the source that is handed in
 abbrev pub given : Options → Option (List ℕ)

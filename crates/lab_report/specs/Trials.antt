@@ -15,10 +15,10 @@ use Rattle.lab_schedules.specs.declared.hunted.Hunted.TheVariants as hunted
 use Rattle.lab_schedules.specs.Reports.{report_text}
 use Rattle.lab_schedules.specs.Schedules.{schedule_text}
 use Rattle.lab_script.specs.Runs.{IsRun}
-use Rattle.lab_report.specs.declared.report.Asked.{Asked}
-use Rattle.lab_report.specs.declared.report.Hunt.{Hunt}
-use Rattle.lab_report.specs.declared.report.Shown.{Shown}
-use Rattle.lab_report.specs.declared.report.Trial.{Trial}
+use Rattle.lab_report.specs.declared.told.Asked.{Asked}
+use Rattle.lab_report.specs.declared.told.Hunt.{Hunt}
+use Rattle.lab_report.specs.declared.told.Shown.{Shown}
+use Rattle.lab_report.specs.declared.told.Trial.{Trial}
 use Rattle.lab_report.specs.Showings.{IsShownBy, given}
 
 -- where `run` makes all steps, ompback writes this

@@ -10,12 +10,12 @@
 
 mod hiding;
 mod page;
-mod report;
 mod reporting;
 mod showing;
 mod style;
+mod told;
 mod trying;
 
 pub use page::push_page;
-pub use report::{Asked, Hunt, Report, Shown, Trial};
 pub use reporting::report;
+pub use told::{Asked, Hunt, Report, Shown, Trial};

@@ -3,7 +3,7 @@
 ghost use Rattle.std.specs.Prelude.{◌≡◌, ◌++◌, OnOk};
 ghost use Rattle.lab_report.specs.Pages.{frame_text, heading_text, hides_part, hides_text, hunt_part, hunt_text, page_text, part_text, port_part, pre_text, said_part, shown_part, shown_text, trial_part, trial_text};
 
-use crate::report::{Hunt, Report, Shown, Trial};
+use crate::told::{Hunt, Report, Shown, Trial};
 use crate::style::{FOOT, HEAD};
 use lab_draw::push_escaped;
 use om_seq::{AllocResult, Seq};

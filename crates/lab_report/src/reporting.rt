@@ -4,7 +4,7 @@ ghost use Rattle.std.specs.Prelude.{◌≡◌, ◌<◌, ◌≤◌, IfOk};
 ghost use Rattle.lab_report.specs.Reports.{IsReport, status_by, status_of, status_of_hunt, status_shown};
 
 use crate::hiding::hides_races;
-use crate::report::{Asked, Hunt, Report, Trial};
+use crate::told::{Asked, Hunt, Report, Trial};
 use crate::trying::{Field, trial};
 use lab_check_kinds::checked;
 use lab_explore_answer::Finding;

@@ -3,7 +3,7 @@
 ghost use Rattle.std.specs.Prelude.{◌≡◌, ◌<◌, ◌≤◌, ◌+◌, IfOk};
 ghost use Rattle.lab_report.specs.Showings.{IsDrawn, IsReplay, IsShownBy, IsSteps};
 
-use crate::report::Shown;
+use crate::told::Shown;
 use lab_draw::{Page, page_from};
 use lab_notes::annotate;
 use lab_schedules::{Block, Found};

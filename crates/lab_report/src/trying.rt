@@ -3,7 +3,7 @@
 ghost use Rattle.std.specs.Prelude.{◌≡◌, ◌<◌, ◌≤◌, IfOk};
 ghost use Rattle.lab_report.specs.Trials.{IsExploredBy, IsHuntFor, IsHuntOf, IsRunAlone, IsTriedBy};
 
-use crate::report::{Asked, Hunt, Trial};
+use crate::told::{Asked, Hunt, Trial};
 use crate::showing::shown;
 use lab_explore_answer::{Answer, Finding, Question, Subject, answer};
 use lab_explore_closed::Limits;

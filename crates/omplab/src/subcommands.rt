@@ -9,7 +9,7 @@ use lab_check::{Report, report};
 use lab_check_kinds::checked;
 use lab_draw::{Page, page};
 use lab_hunt::{Aims, Hunted, Seeds, push_report};
-use lab_macros::{Expanded, Place, expanded};
+use lab_macros::{Expanded, Place, expand};
 use lab_notes::annotate;
 use lab_script::{Script, ScriptFault, cone, script};
 use lab_text::first_line;
@@ -221,7 +221,7 @@ pub(crate) fn plain<H: Threads + Wait + Sync, R: Read, W: Write>(
         most,
         first: first_line(&input, session.commands),
     };
-    match expanded(host.rt, host.alloc, &place, session.commands) {
+    match expand(host.rt, host.alloc, &place, session.commands) {
         Ok(Expanded::Commands { lines, told }) => {
             host.tell(&told);
             written(writer, &lines, DONE)

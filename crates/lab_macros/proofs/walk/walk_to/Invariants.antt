@@ -1,6 +1,6 @@
 use Rattle.std.proofs.Common.{◌≡◌, ◌<◌, ◌+◌}
 use Rattle.lab_macros.specs.Walks.{walk_within}
-use Rattle.lab_macros.proofs.walk.walk.Given as goal
+use Rattle.lab_macros.proofs.walk.walk_to.Given as goal
 
 -- the way from here on is the whole way
 abbrev pub invariant-steps : goal.invariant-steps

@@ -1,6 +1,6 @@
 use Rattle.std.proofs.Common.{refl, sym, ◌∙◌}
 use Rattle.lab_macros.proofs.WalkLaws.{can_be_made}
-use Rattle.lab_macros.proofs.walk.stride.Goals as goal
+use Rattle.lab_macros.proofs.walk.make_stride.Goals as goal
 
 pub returns-then-not-is_possible-clause-stride : goal.returns-then-not-is_possible-clause-stride
 returns-then-not-is_possible-clause-stride c =

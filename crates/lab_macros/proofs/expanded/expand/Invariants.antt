@@ -1,7 +1,7 @@
 use Rattle.std.proofs.Common.{◌≤◌, ◌-◌, take, length}
 use Rattle.om_shell_commands.specs.Words.{spelled}
 use Rattle.lab_macros.specs.Expansions.{Expands}
-use Rattle.lab_macros.proofs.expanded.expanded.Given as goal
+use Rattle.lab_macros.proofs.expanded.expand.Given as goal
 
 -- the lines so far stand for the commands so far
 abbrev pub invariant-lines : goal.invariant-lines
