@@ -2,6 +2,9 @@
 
 use crate::block::Block;
 use lab_judge::{End, Standard, Wanted};
+use om_seq::AllocResult;
+use om_undo::Machine;
+use std::alloc::Global;
 
 /// What a hunt looks for, and how long.
 #[derive(Clone, Copy)]
@@ -21,6 +24,10 @@ pub struct Aims<'a> {
 pub trait Progress {
     /// The schedule of this seed is tried next. Seeds are counted from 1, up to `seeds`.
     fn tell(&mut self, seed: u64, seeds: u64);
+
+    /// The schedule of a seed was played and is not bad; this machine holds its history. The seed is 0 for `run` alone. The
+    /// only error is out of memory.
+    fn played(&mut self, alloc: Global, seed: u64, machine: &Machine) -> AllocResult<()>;
 
     /// The schedule of a seed is bad, as these words say: the first line of the report, without its end. The
     /// schedule is made short next.
