@@ -94,9 +94,26 @@ REFUSED_UNDO = "line 8: undo 0: refused by #11 worker 1 on global x\n"
 
 NO_END = """nothing bad in the schedule of 1 seed
 `run` came to no end, and no seed did: no output was compared; give more --steps
-These are not all schedules, and this is no race detector.
+These are not all schedules.
 """
 HUNT = ["hunt", "--seeds", "20", "--steps", "1000"]
+
+# A program with a race that does no harm, and what is told of the races of one history.
+HARMLESS = RACE.replace("x = x + 1", "x = 1")
+HARMS_NOT = """nothing bad in the schedules of 20 seeds
+These are not all schedules.
+`run`: 1 race in this history of 14 steps
+1: line 6 writes x, line 6 writes it; worker 0, worker 1
+   #4 of worker 0 was made before #8 of worker 1, and nothing orders them
+"""
+JUDGE = ["races", "--session"]
+JUDGED = """2 races in this history of 18 steps; other schedules may have others
+1: line 6 reads x, line 6 writes it; worker 1, worker 0
+   #3 of worker 1 was made before #8 of worker 0, and nothing orders them
+2: line 6 writes x, line 6 writes it; worker 0, worker 1
+   #8 of worker 0 was made before #12 of worker 1, and nothing orders them
+"""
+NO_STEPS = "no race in this history of 0 steps; other schedules may have some\n"
 
 # A source that has a form, what it becomes, and what is told of its changes.
 WIDER = "static int x = 3;\nint main(void)\n{\n\tlong n = 10L;\n\treturn EXIT_SUCCESS;\n}\n"
@@ -137,6 +154,11 @@ ROWS = [
     ("what `run` prints is told", HUNT, RACE, "", 1, 'seed 5: printed "1\\n", where `run` prints "2\\n"\n' + SHORTENED, ""),
     ("the line of a fault is told", ["hunt", "--seeds", "1", "--steps", "10"], FAULTY, "", 1, FAULT, ""),
     ("nothing was compared", ["hunt", "--seeds", "1", "--steps", "10"], ENDLESS, "", 0, NO_END, ""),
+    ("a race that does no harm is told", HUNT, HARMLESS, "", 1, HARMS_NOT, ""),
+    ("the races of a session are told", JUDGE, RACE, "step 0\nstep 1\nstep 1\nrun 100\n", 1, JUDGED, ""),
+    ("one history is not all", JUDGE, RACE, "", 4, NO_STEPS, ""),
+    ("which commands were turned down is told with the races", JUDGE, RACE, "stepp 0\n", 4, NO_STEPS, "line 1: stepp 0: H1 unknown command\n"),
+    ("no races of the session of a refused source", JUDGE, STATIC, "", 5, "", LEFT_OUT),
     ("no hunt of a refused source", HUNT, STATIC, "", 5, "", LEFT_OUT),
     ("no schedules of a refused source", ["explore"], STATIC, "", 5, "", LEFT_OUT),
     ("no races of a refused source", ["races"], STATIC, "", 5, "", LEFT_OUT),

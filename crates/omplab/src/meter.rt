@@ -1,6 +1,9 @@
 //! A meter, which shows on standard error how far a hunt is.
 
 use lab_hunt::Progress;
+use om_seq::AllocResult;
+use om_undo::Machine;
+use std::alloc::Global;
 use std::rt::Runtime;
 
 // How many lines a hunt writes at most, in about.
@@ -51,6 +54,10 @@ impl<R: Runtime> Progress for Meter<'_, R> {
                 .rt
                 .eprint(format_args!("{again}seed {seed} of {seeds}"));
         }
+    }
+
+    fn played(&mut self, _alloc: Global, _seed: u64, _machine: &Machine) -> AllocResult<()> {
+        Ok(())
     }
 
     fn found(&mut self, words: &[u8]) {
