@@ -98,6 +98,16 @@ These are not all schedules, and this is no race detector.
 """
 HUNT = ["hunt", "--seeds", "20", "--steps", "1000"]
 
+# What is told of the races of one history.
+JUDGE = ["races", "--session"]
+JUDGED = """2 races in this history of 18 steps; other schedules may have others
+1: line 6 reads x, line 6 writes it; worker 1, worker 0
+   #3 of worker 1 was made before #8 of worker 0, and nothing orders them
+2: line 6 writes x, line 6 writes it; worker 0, worker 1
+   #8 of worker 0 was made before #12 of worker 1, and nothing orders them
+"""
+NO_STEPS = "no race in this history of 0 steps; other schedules may have some\n"
+
 # A source that has a form, what it becomes, and what is told of its changes.
 WIDER = "static int x = 3;\nint main(void)\n{\n\tlong n = 10L;\n\treturn EXIT_SUCCESS;\n}\n"
 PORTED = "       int x = 3;\nint main(void)\n{\n\tint  n = 10 ;\n\treturn 0           ;\n}\n"
@@ -137,6 +147,10 @@ ROWS = [
     ("what `run` prints is told", HUNT, RACE, "", 1, 'seed 5: printed "1\\n", where `run` prints "2\\n"\n' + SHORTENED, ""),
     ("the line of a fault is told", ["hunt", "--seeds", "1", "--steps", "10"], FAULTY, "", 1, FAULT, ""),
     ("nothing was compared", ["hunt", "--seeds", "1", "--steps", "10"], ENDLESS, "", 0, NO_END, ""),
+    ("the races of a session are told", JUDGE, RACE, "step 0\nstep 1\nstep 1\nrun 100\n", 1, JUDGED, ""),
+    ("one history is not all", JUDGE, RACE, "", 4, NO_STEPS, ""),
+    ("which commands were turned down is told with the races", JUDGE, RACE, "stepp 0\n", 4, NO_STEPS, "line 1: stepp 0: H1 unknown command\n"),
+    ("no races of the session of a refused source", JUDGE, STATIC, "", 5, "", LEFT_OUT),
     ("no hunt of a refused source", HUNT, STATIC, "", 5, "", LEFT_OUT),
     ("no schedules of a refused source", ["explore"], STATIC, "", 5, "", LEFT_OUT),
     ("no races of a refused source", ["races"], STATIC, "", 5, "", LEFT_OUT),

@@ -40,11 +40,7 @@ fn push_first(text: &mut Vec<u8>, races: &[Race], steps: &[Traced<'_>]) -> Alloc
 }
 
 // Appends how many races there are in a history of so many steps.
-fn push_count(
-    text: &mut Vec<u8>,
-    races: &[Race],
-    steps: &[Traced<'_>],
-) -> AllocResult<()> {
+fn push_count(text: &mut Vec<u8>, races: &[Race], steps: &[Traced<'_>]) -> AllocResult<()> {
     if races.is_empty() {
         text.extend_from_slice(b"no race")?;
     } else {

@@ -164,7 +164,14 @@ fn races<'a>(alloc: Global) -> AllocResult<Command<'a>> {
     let command = Command::new(alloc, "races")
         .about("Looks at all schedules for accesses that meet, with both lines of each pair")
         .after_help(SCHEDULES);
-    limited(alloc, command)
+    with(limited(alloc, command), session(alloc))
+}
+
+fn session<'a>(alloc: Global) -> Arg<'a> {
+    Arg::new(alloc, "session")
+        .long("session")
+        .help("Reads commands on standard input, and judges the one history that they leave")
+        .action(ArgAction::SetTrue)
 }
 
 // A command with the limits of an exploration, and its file.

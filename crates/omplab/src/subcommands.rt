@@ -226,7 +226,7 @@ pub(crate) fn draw<H: Threads + Wait + Sync, R: Read, W: Write>(
 
 // The fault of a session that was run apart: such a session writes into memory, which takes every byte for which there
 // is room.
-fn within(fault: ShellFault) -> ShellFault {
+pub(crate) fn within(fault: ShellFault) -> ShellFault {
     match fault {
         ShellFault::Write => ShellFault::Memory,
         other => other,
