@@ -40,7 +40,7 @@ pub struct Stored {
     // Where it stood when it put them in.
     states: Vec<Snapshot<Standing>>,
     // How often it had gone on when it put them in, by the numbers of their rows.
-    depths: Vec<u32>,
+    depths: Vec<usize>,
 }
 
 // By hand: other crates call this, and do not prove anew how each part is dropped.
@@ -186,7 +186,7 @@ fn put_in(
 }
 
 // How often a set had gone on when it put in a row; `None` where it did not.
-fn depth_of(rows: &WordTable, depths: &[u32], row: &[u32]) -> Option<u32> {
+fn depth_of(rows: &WordTable, depths: &[usize], row: &[u32]) -> Option<usize> {
     let number = rows.number(row)?;
     depths.get(number as usize).copied()
 }
@@ -272,7 +272,7 @@ impl Stored {
         self.depths.reserve(1)?;
         let added = put_in(&mut self.rows, &mut self.states, alloc, &self.here)?;
         if added {
-            self.depths.push_reserved(self.past.len() as u32);
+            self.depths.push_reserved(self.past.len());
         }
         Ok(added)
     }
@@ -285,7 +285,7 @@ impl Stored {
         rows_tell_apart();
         let row = self.here.row.cut();
         match depth_of(&self.rows, self.depths.as_slice(), row) {
-            Some(depth) => is_at(self.past.as_slice(), depth as usize, row),
+            Some(depth) => is_at(self.past.as_slice(), depth, row),
             None => false,
         }
     }
