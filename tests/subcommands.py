@@ -163,8 +163,8 @@ BEGUN = [
     ("all schedules are looked at", ["explore"], RACE, "", 1, "complete: 2 ends, in all schedules of 2 workers\n", ""),
     ("accesses meet", ["races"], RACE, "", 1, "complete: 2 pairs of accesses meet, in all schedules of 2 workers\n", ""),
     ("one worker has one schedule", ["explore", "--threads", "1"], RACE, "", 0, 'complete: 1 end, in all schedules of 1 worker\n1: ended 0, printed "1\\n"\n', ""),
-    ("not all is looked at", ["races", "--states", "1"], RACE, "", 4, "not complete: 1 states are stored, and there are more; so far no two accesses meet\n", ""),
-    ("steps are limited", ["explore", "--steps", "1"], RACE, "", 4, "stopped: behind 1 steps, as --steps asks; so far 0 ends\n", ""),
+    ("not all is looked at", ["races", "--states", "1"], RACE, "", 4, "not complete: more than 1 state; so far no two accesses meet\n", ""),
+    ("steps are limited", ["explore", "--steps", "1"], RACE, "", 4, "stopped: behind 1 step, as --steps asks; so far 0 ends\n", ""),
     ("words are wrong", ["hunts"], "", "", 2, "", "error: unrecognized subcommand 'hunts'"),
     ("a subcommand is missing", [], "", "", 2, "", "error: "),
 ]

@@ -38,7 +38,7 @@ fn push_all(
 ) -> AllocResult<()> {
     let ends = explored.ends.as_slice();
     push_ends(alloc, text, ends)?;
-    push_faults_beside(text, explored.faults.as_slice(), ends)?;
+    push_faults_beside(text, explored)?;
     push_races(text, program, explored.races.as_slice())
 }
 
@@ -52,18 +52,21 @@ fn push_first(text: &mut Vec<u8>, question: &Question, explored: &Explored) -> A
             push_counted(text, u64::from(question.workers), b"worker")?;
         }
         Verdict::NotComplete => {
-            push_numbered(text, b"not complete: ", question.limits.states)?;
-            text.extend_from_slice(b" states are stored, and there are more; so far ")?;
+            text.extend_from_slice(b"not complete: more than ")?;
+            push_counted(text, question.limits.states, b"state")?;
+            text.extend_from_slice(b"; so far ")?;
             push_found(text, question.subject, explored)?;
         }
         Verdict::Stopped => {
-            push_numbered(text, b"stopped: behind ", explored.steps)?;
-            text.extend_from_slice(b" steps, as --steps asks; so far ")?;
+            text.extend_from_slice(b"stopped: behind ")?;
+            push_counted(text, explored.steps, b"step")?;
+            text.extend_from_slice(b", as --steps asks; so far ")?;
             push_found(text, question.subject, explored)?;
         }
         Verdict::OutOfMemory => {
-            push_numbered(text, b"out of memory: behind ", explored.states)?;
-            text.extend_from_slice(b" states; so far ")?;
+            text.extend_from_slice(b"out of memory: behind ")?;
+            push_counted(text, explored.states, b"state")?;
+            text.extend_from_slice(b"; so far ")?;
             push_found(text, question.subject, explored)?;
         }
     }

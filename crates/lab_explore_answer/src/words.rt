@@ -1,7 +1,7 @@
 //! Ends and faults in words.
 
 use crate::blocks::push_path;
-use lab_explore_closed::{Ending, FoundEnd, FoundFault, Met, Wait};
+use lab_explore_closed::{Ending, Explored, FoundEnd, Met, Verdict, Wait};
 use om_seq::AllocResult;
 use om_shell_commands::{push_number, push_numbered};
 use om_state::Blocked;
@@ -115,19 +115,24 @@ fn push_awaited(text: &mut Vec<u8>, why: Blocked) -> AllocResult<()> {
     }
 }
 
-/// Appends the faults that are in no end: these workers stopped while another one goes on for ever.
-pub(crate) fn push_faults_beside(
-    text: &mut Vec<u8>,
-    faults: &[FoundFault],
-    ends: &[FoundEnd],
-) -> AllocResult<()> {
-    for found in faults {
-        if !is_in_some(&found.met, ends) {
+/// Appends the faults that are in no end that was found. Where all was looked at, these workers stopped while another
+/// one goes on for ever.
+pub(crate) fn push_faults_beside(text: &mut Vec<u8>, explored: &Explored) -> AllocResult<()> {
+    for found in explored.faults.as_slice() {
+        if !is_in_some(&found.met, explored.ends.as_slice()) {
             push_met(text, b"fault: F", &found.met)?;
-            text.extend_from_slice(b", in no end\n")?;
+            text.extend_from_slice(beside(explored.verdict))?;
         }
     }
     Ok(())
+}
+
+// How the line of such a fault ends.
+fn beside(verdict: Verdict) -> &'static [u8] {
+    match verdict {
+        Verdict::Complete => b", in no end\n",
+        Verdict::NotComplete | Verdict::Stopped | Verdict::OutOfMemory => b", in no end so far\n",
+    }
 }
 
 // Whether a fault is one of an end's.
