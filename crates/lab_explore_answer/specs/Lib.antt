@@ -1,2 +1,3 @@
 pub mod Findings
+pub mod FirstWords
 pub mod Answers

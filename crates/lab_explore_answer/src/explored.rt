@@ -1,8 +1,9 @@
 //! What is answered for a source.
 
-ghost use Rattle.std.specs.Prelude.{◌≡◌, ◌≤◌, IfOk, IfSome};
+ghost use Rattle.std.specs.Prelude.{◌≡◌, ◌≤◌, None, IfOk, IfSome};
 ghost use Rattle.lab_explore_answer.specs.Answers.{Answers};
 ghost use Rattle.lab_explore_answer.specs.Findings.{finding_of, ran_out_by};
+ghost use Rattle.lab_explore_answer.specs.FirstWords.{BeginsWith, first_words};
 ghost use Rattle.om_frontend.specs.Verdict.{IsProgramOf};
 
 use crate::asked::{Answer, Question};
@@ -60,6 +61,8 @@ fn told(
     ensures finding { IfOk result
         (λ answer. answer.finding ≡ finding_of question.now.subject explored.now) }
     ensures ran_out { IfOk result (λ answer. answer.ran_out ≡ ran_out_by explored.now.verdict) }
+    ensures told { IfOk result (λ answer. question.now.script ≡ None
+        → BeginsWith (first_words explored.now.verdict) answer.text.items) }
 {
     let finding = finding_of(question.subject, explored);
     let text = match question.script {

@@ -1,7 +1,8 @@
 //! omplab explore, omplab races: what is answered for a source: all ends, faults and races in words, or a script.
 //!
 //! - `answer` explores the program of a source, and tells what was found, or writes the steps that lead to one thing.
-//!   Contracts say which exploration is told, and whether it is bad. What words tell it no clause says.
+//!   Contracts say which exploration is told, whether it is bad, and with which words a report begins. What other words
+//!   tell it no clause says.
 //! - `asked` has what is asked for, and `finding` says whether what was found is bad, and the exit status.
 //! - `report` puts the lines together. `words` has ends and faults, and `racing` races. `blocks` tells a path as
 //!   blocks of steps, and `script` as commands.

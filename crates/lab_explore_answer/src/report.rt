@@ -1,5 +1,8 @@
 //! The report: the first line says whether all was looked at.
 
+ghost use Rattle.std.specs.Prelude.{◌≡◌, IfOk};
+ghost use Rattle.lab_explore_answer.specs.FirstWords.{BeginsWith, first_words};
+
 use crate::asked::{Question, Subject};
 use crate::racing::{push_numbered_races, push_races};
 use crate::words::{push_counted, push_ends, push_faults_beside};
@@ -11,6 +14,35 @@ use std::alloc::Global;
 
 /// The report on an exploration of a program. Its only error is out of memory.
 pub(crate) fn report(
+    alloc: Global,
+    program: &Program,
+    question: &Question,
+    explored: &Explored,
+) -> AllocResult<Vec<u8>>
+    ensures { IfOk result
+        (λ text. BeginsWith (first_words explored.now.verdict) text.items) }
+{
+    let rest = rest_of(alloc, program, question, explored)?;
+    let mut text = Vec::new(alloc);
+    text.extend_from_slice(first_words(explored.verdict))?;
+    text.extend_from_slice(rest.as_slice())?;
+    Ok(text)
+}
+
+// The words with which a report begins.
+fn first_words(verdict: Verdict) -> &'static [u8]
+    ensures { result.now ≡ first_words verdict }
+{
+    match verdict {
+        Verdict::Complete => b"complete: ",
+        Verdict::NotComplete => b"not complete: ",
+        Verdict::Stopped => b"stopped: ",
+        Verdict::OutOfMemory => b"out of memory: ",
+    }
+}
+
+// What stands behind those words.
+fn rest_of(
     alloc: Global,
     program: &Program,
     question: &Question,
@@ -42,35 +74,37 @@ fn push_all(
     push_races(text, program, explored.races.as_slice())
 }
 
-// Appends whether all was looked at, and how much was found.
+// Appends the rest of the first line: how far the search went, and how much was found.
 fn push_first(text: &mut Vec<u8>, question: &Question, explored: &Explored) -> AllocResult<()> {
-    match explored.verdict {
-        Verdict::Complete => {
-            text.extend_from_slice(b"complete: ")?;
-            push_found(text, question.subject, explored)?;
-            text.extend_from_slice(b", in all schedules of ")?;
-            push_counted(text, u64::from(question.workers), b"worker")?;
-        }
-        Verdict::NotComplete => {
-            text.extend_from_slice(b"not complete: more than ")?;
-            push_counted(text, question.limits.states, b"state")?;
-            text.extend_from_slice(b"; so far ")?;
-            push_found(text, question.subject, explored)?;
-        }
-        Verdict::Stopped => {
-            text.extend_from_slice(b"stopped: behind ")?;
-            push_counted(text, explored.steps, b"step")?;
-            text.extend_from_slice(b", as --steps asks; so far ")?;
-            push_found(text, question.subject, explored)?;
-        }
-        Verdict::OutOfMemory => {
-            text.extend_from_slice(b"out of memory: behind ")?;
-            push_counted(text, explored.states, b"state")?;
-            text.extend_from_slice(b"; so far ")?;
-            push_found(text, question.subject, explored)?;
-        }
+    push_reach(text, question, explored)?;
+    push_found(text, question.subject, explored)?;
+    if explored.verdict == Verdict::Complete {
+        text.extend_from_slice(b", in all schedules of ")?;
+        push_counted(text, u64::from(question.workers), b"worker")?;
     }
     text.extend_from_slice(b"\n")
+}
+
+// Appends how far the search went, where not all was looked at.
+fn push_reach(text: &mut Vec<u8>, question: &Question, explored: &Explored) -> AllocResult<()> {
+    match explored.verdict {
+        Verdict::Complete => Ok(()),
+        Verdict::NotComplete => {
+            text.extend_from_slice(b"more than ")?;
+            push_counted(text, question.limits.states, b"state")?;
+            text.extend_from_slice(b"; so far ")
+        }
+        Verdict::Stopped => {
+            text.extend_from_slice(b"behind ")?;
+            push_counted(text, explored.steps, b"step")?;
+            text.extend_from_slice(b", as --steps asks; so far ")
+        }
+        Verdict::OutOfMemory => {
+            text.extend_from_slice(b"behind ")?;
+            push_counted(text, explored.states, b"state")?;
+            text.extend_from_slice(b"; so far ")
+        }
+    }
 }
 
 // Appends how much was found of what is asked for.
