@@ -40,7 +40,7 @@ returns-then-not-is_new-clause-arrives c =
     c.requires.search more c.in_ok-take.ensures.follows there.0 there.1
     (c.undo_last.ensures.machine ∙ ap (with_undo m) c.worker-worker.ensures) c.undo_last.ensures.stored
     c.undo_last.ensures.notes c.undo_last.ensures.steps
-    (λ is. c.goes_round.ensures (sym c.undo_last.ensures.round ∙ is))))
+    (λ is. c.goes_round-self.ensures (sym c.undo_last.ensures.round ∙ is))))
 
 pub returns-else-not-is_new-clause-arrives : goal.returns-else-not-is_new-clause-arrives
 returns-else-not-is_new-clause-arrives c =
