@@ -117,6 +117,10 @@ NO_POINTER = """a.c:3:6: error: port: a pointer has no form here
 help: pass an index of a global array
 a.c:3:6: error: S3: """
 
+FOUR_SEEDS = """nothing bad in the schedules of 4 seeds
+These are not all schedules, and this is no race detector.
+"""
+
 # What is tried, its words, its source, its input, the status, and the texts that are wanted on standard output and on standard
 # error.
 ROWS = [
@@ -135,6 +139,9 @@ ROWS = [
     ("no function is named where two stand on a line", ["notes"], ON_A_LINE, "refused by #3 worker 1 on cell 0/0/0/0\n", 0, "refused by #3 worker 1 on cell 0/0/0/0 | x\n", ""),
     ("a lost update is found", [*HUNT, "--expect", "2\\n"], RACE, "", 1, 'seed 5: printed "1\\n", wanted "2\\n"\n' + SHORTENED, ""),
     ("what `run` prints is told", HUNT, RACE, "", 1, 'seed 5: printed "1\\n", where `run` prints "2\\n"\n' + SHORTENED, ""),
+    ("a hunt begins with another seed", ["hunt", "--first-seed", "5", "--seeds", "1", "--steps", "1000"], RACE, "", 1, 'seed 5: printed "1\\n", where `run` prints "2\\n"\n' + SHORTENED, ""),
+    ("a hunt ends before another seed", ["hunt", "--seeds", "4", "--steps", "1000"], RACE, "", 0, FOUR_SEEDS, ""),
+    ("the first seed is told", ["hunt", "--first-seed", "3", "--seeds", "2", "--steps", "1000"], RACE, "", 0, FOUR_SEEDS.replace("4 seeds", "2 seeds, from seed 3 on"), ""),
     ("the line of a fault is told", ["hunt", "--seeds", "1", "--steps", "10"], FAULTY, "", 1, FAULT, ""),
     ("nothing was compared", ["hunt", "--seeds", "1", "--steps", "10"], ENDLESS, "", 0, NO_END, ""),
     ("no hunt of a refused source", HUNT, STATIC, "", 5, "", LEFT_OUT),

@@ -94,7 +94,7 @@ fn seek<H: Threads + Wait + Sync, P: Progress>(
     requires at_most_32 { ground.now.workers ≤ 32 }
     ensures { IfOk result (IsSought ground.now field.now.source.now) }
 {
-    let mut tries = Tries::over(field, ground.workers)?;
+    let mut tries = Tries::over(field, ground.workers, ground.seeds.after)?;
     let sought = if ground.wanted.text.is_some() {
         compare(field, ground, &mut tries, progress)
     } else {
@@ -115,6 +115,7 @@ fn settle<H: Threads + Wait + Sync, P: Progress>(
     requires at_least_one { 0 < ground.now.workers }
     requires at_most_32 { ground.now.workers ≤ 32 }
     requires unknown { text_in ground.now.wanted.now.text ≡ None }
+    requires begun { tries.old.seed ≡ ground.now.seeds.after }
     ensures { IfOk result (IsSought ground.now field.now.source.now) }
 {
     match tries.next(field, ground, progress)? {

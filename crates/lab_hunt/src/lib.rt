@@ -10,4 +10,4 @@ mod tries;
 
 pub use hunting::hunt;
 pub use lab_judge::{Badness, Standard};
-pub use lab_schedules::{Aims, Block, Found, Hunted, Progress, push_report};
+pub use lab_schedules::{Aims, Block, Found, Hunted, Progress, Seeds, push_report};

@@ -22,6 +22,6 @@ mod wander;
 
 pub use block::Block;
 pub use commands::script;
-pub use hunted::{Aims, Found, Hunted, Progress};
+pub use hunted::{Aims, Found, Hunted, Progress, Seeds};
 pub use report::push_report;
 pub use seeds::{Chances, Ground, Schedule};

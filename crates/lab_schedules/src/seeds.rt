@@ -6,7 +6,7 @@ ghost use Rattle.om_undo.specs.Machines.{at_start};
 
 use crate::block::Block;
 use crate::commands::MOST_STEPS;
-use crate::hunted::Progress;
+use crate::hunted::{Progress, Seeds};
 use crate::player::Player;
 use crate::report::first_line;
 use crate::shorten::Search;
@@ -24,8 +24,8 @@ pub struct Ground<'a> {
     pub workers: u8,
     /// How many steps chance makes at most.
     pub steps: u64,
-    /// How many seeds there are.
-    pub seeds: u64,
+    /// Which seeds there are.
+    pub seeds: Seeds,
     /// What the program has to print.
     pub wanted: &'a Wanted,
 }
@@ -78,11 +78,11 @@ impl Chances {
         progress: &mut P,
     ) -> AllocResult<Option<Schedule>>
         ensures lies_after { IfOk result (λ found. IfSome found (LiesAfter after)) }
-        ensures lies_within { IfOk result (λ found. IfSome found (LiesWithin ground.now.seeds)) }
+        ensures lies_within { IfOk result (λ found. IfSome found (LiesWithin ground.now.seeds.last)) }
     {
-        'seeds: for before in after..ground.seeds {
+        'seeds: for before in after..ground.seeds.last {
             let seed = before + 1;
-            progress.tell(seed, ground.seeds);
+            progress.tell(seed, ground.seeds.last);
             match blocks_of(alloc, &mut self.player, ground, seed, progress)? {
                 Some((blocks, is_bad)) => {
                     return Ok(Some(Schedule {

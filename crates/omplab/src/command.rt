@@ -97,10 +97,21 @@ fn hunt<'a>(alloc: Global) -> AllocResult<Command<'a>> {
             "A schedule is bad where the program prints something else, meets a fault, or is stuck.
 This is no exploration of all schedules and no race detector.",
         );
-    let command = command.arg(seeds(alloc));
+    let command = command.arg(first_seed(alloc));
+    let command = with(command, seeds(alloc));
     let command = with(command, steps(alloc));
     let command = with(command, expect(alloc));
     with(command, file(alloc, true))
+}
+
+fn first_seed<'a>(alloc: Global) -> Arg<'a> {
+    number(
+        alloc,
+        "first-seed",
+        "A",
+        "The first seed: with K schedules, the last one is A + K - 1",
+    )
+    .default_value("1")
 }
 
 fn seeds<'a>(alloc: Global) -> Arg<'a> {

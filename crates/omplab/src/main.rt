@@ -26,6 +26,7 @@ use crate::words::{Asked, Words, ask_for_version, words_in};
 use clap::Error;
 use clap::error::ErrorKind;
 use lab_explore_answer::Question;
+use lab_hunt::Seeds;
 use lab_text::status::{DONE, FAULT, WORDS};
 use om_parser::STACK_SIZE;
 use om_seq::AllocResult;
@@ -66,13 +67,14 @@ fn done<R: Runtime + Threads + Wait + Sync>(
         Asked::Check { .. } => check(host, &mut writer),
         Asked::Port { strict, list, .. } => port(host, strict, list, &mut writer),
         Asked::Hunt {
-            seeds,
+            first,
+            count,
             steps,
             expected,
             ..
         } => {
             let search = Search {
-                seeds,
+                seeds: Seeds::from(first, count),
                 steps,
                 expected,
             };

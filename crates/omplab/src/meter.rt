@@ -43,13 +43,11 @@ impl<'a, R: Runtime> Meter<'a, R> {
 }
 
 impl<R: Runtime> Progress for Meter<'_, R> {
-    fn tell(&mut self, seed: u64, seeds: u64) {
-        if self.is_watched && seed % (seeds / MOST_LINES + 1) == 0 {
+    fn tell(&mut self, seed: u64, last: u64) {
+        if self.is_watched && seed % (last / MOST_LINES + 1) == 0 {
             self.has_told = true;
             let again = AGAIN;
-            let _ = self
-                .rt
-                .eprint(format_args!("{again}seed {seed} of {seeds}"));
+            let _ = self.rt.eprint(format_args!("{again}seed {seed} of {last}"));
         }
     }
 

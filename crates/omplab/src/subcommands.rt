@@ -8,7 +8,7 @@ use crate::meter::{AGAIN, Meter};
 use lab_check::{Report, report};
 use lab_check_kinds::checked;
 use lab_draw::{Page, page};
-use lab_hunt::{Aims, Hunted, push_report};
+use lab_hunt::{Aims, Hunted, Seeds, push_report};
 use lab_notes::annotate;
 use lab_script::{Script, ScriptFault, cone, script};
 use lab_text::status::{BAD, DONE, FAULT, REFUSED};
@@ -78,7 +78,7 @@ pub(crate) fn check<H, W: Write>(host: &Host<'_, '_, H>, writer: &mut W) -> Resu
 /// What a hunt looks for, and how long.
 #[derive(Clone, Copy)]
 pub(crate) struct Search<'a> {
-    pub(crate) seeds: u64,
+    pub(crate) seeds: Seeds,
     pub(crate) steps: u64,
     /// What the program is to print, with `\n` for a line end; where it is `None`, what `run` prints.
     pub(crate) expected: Option<&'a str>,

@@ -35,8 +35,10 @@ pub enum Asked<'a> {
     /// To try schedules by chance, and shorten the first bad one.
     Hunt {
         file: &'a str,
+        /// The first seed, from 1 on.
+        first: u64,
         /// How many schedules are tried, from 1 on.
-        seeds: u64,
+        count: u64,
         /// How many steps a schedule has at most, from 1 on.
         steps: u64,
         /// What the program is to print; where it is `None`, what `run` prints.
@@ -160,7 +162,8 @@ fn explore_by<'a>(file: &'a str, subject: Subject, given: &ArgMatches<'a>) -> Op
 fn hunt_by<'a>(file: &'a str, given: &ArgMatches<'a>) -> Option<Asked<'a>> {
     Some(Asked::Hunt {
         file,
-        seeds: given.get_one::<u64>("seeds")?,
+        first: given.get_one::<u64>("first-seed")?,
+        count: given.get_one::<u64>("seeds")?,
         steps: given.get_one::<u64>("steps")?,
         expected: given.get_str("expect"),
     })
