@@ -3,9 +3,11 @@
 use crate::sections::{Given, cut};
 use crate::subcommands::{WORKERS, Written, number_in, output_of, refused};
 use lab_hunt::{Aims, Hunted, Progress, Seeds, hunt, push_report};
+use lab_races_answer::Watch;
 use lab_script::ScriptFault;
 use lab_text::status::{BAD, DONE};
 use om_seq::AllocResult;
+use om_undo::Machine;
 use std::alloc::Global;
 use std::sync::Wait;
 use std::thread::Threads;
@@ -31,6 +33,10 @@ impl Progress for Count {
         let is_next = self.last.checked_add(1) == Some(seed);
         self.is_in_turn = self.is_in_turn && is_next && last == self.seeds.last;
         self.last = seed;
+    }
+
+    fn played(&mut self, _alloc: Global, _seed: u64, _machine: &Machine) -> AllocResult<()> {
+        Ok(())
     }
 
     fn found(&mut self, words: &[u8]) {
@@ -103,8 +109,10 @@ pub(crate) fn hunted<R: Threads + Wait + Sync>(
         found: Vec::new(alloc),
         shortens: false,
     };
-    let hunted = hunt(rt, alloc, given.source, &aims, &mut count)?;
-    Ok(told_of(alloc, given, &count, &hunted)?)
+    let mut watch = Watch::over(&mut count);
+    let hunted = hunt(rt, alloc, given.source, &aims, &mut watch)?;
+    let raced = watch.into_raced();
+    Ok(told_of(alloc, given, &count, &hunted, raced)?)
 }
 
 // What is written of a hunt.
@@ -113,6 +121,7 @@ fn told_of(
     given: Given<'_>,
     count: &Count,
     hunted: &Hunted,
+    raced: Option<Vec<u8>>,
 ) -> AllocResult<Written> {
     let mut text = Vec::new(alloc);
     count.push(&mut text)?;
@@ -120,12 +129,24 @@ fn told_of(
         Hunted::Refused(_) => refused(alloc, given, text),
         Hunted::Nothing { printed, .. } => {
             push_report(&mut text, hunted)?;
+            let status = push_raced(&mut text, raced)?;
             text.extend_from_slice(printed.as_slice())?;
-            Ok(output_of(alloc, DONE, text))
+            Ok(output_of(alloc, status, text))
         }
         Hunted::Found(_) => {
             push_report(&mut text, hunted)?;
             Ok(output_of(alloc, BAD, text))
         }
+    }
+}
+
+// Appends the races of a history, if there are some, and answers the exit status.
+fn push_raced(text: &mut Vec<u8>, raced: Option<Vec<u8>>) -> AllocResult<u8> {
+    match raced {
+        Some(raced) => {
+            text.extend_from_slice(&raced)?;
+            Ok(BAD)
+        }
+        None => Ok(DONE),
     }
 }

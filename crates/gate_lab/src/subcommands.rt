@@ -3,7 +3,7 @@
 ghost use Rattle.std.specs.Prelude.{◌≡◌};
 
 use crate::hunts::hunted;
-use crate::schedules::explored;
+use crate::schedules::{explored, judged};
 use crate::sections::{Given, cut};
 use lab_check::{Report, report};
 use lab_draw::{Page, page};
@@ -47,6 +47,7 @@ pub(crate) fn written_by<R: Threads + Wait + Sync>(
         "hunt" => hunted(rt, alloc, numbers, given),
         "explore" => explored(alloc, Subject::Ends, numbers, given),
         "races" => explored(alloc, Subject::Races, numbers, given),
+        "judge" => judged(rt, alloc, given, options(given)),
         "script" => scripted(rt, alloc, given),
         "cone" => coned(rt, alloc, number_in(numbers), given),
         "notes" => noted(alloc, given),

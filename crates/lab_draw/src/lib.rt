@@ -23,3 +23,4 @@ mod style;
 pub use drawing::page;
 pub use outcome::Page;
 pub use scale::Scale;
+pub use session::{Heard, hear};

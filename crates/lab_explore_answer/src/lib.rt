@@ -19,3 +19,5 @@ mod words;
 pub use asked::{Answer, Finding, Question, Subject};
 pub use explored::answer;
 pub use finding::status_of;
+pub use racing::{Meeting, push_meeting};
+pub use words::push_counted;

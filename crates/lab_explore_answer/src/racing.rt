@@ -2,7 +2,7 @@
 
 use crate::blocks::push_path;
 use crate::words::push_place;
-use lab_explore_closed::{AccessKind, FoundRace, Place, Racer};
+use lab_explore_closed::{AccessKind, FoundRace, Pair, Place, Racer};
 use om_code::Program;
 use om_foot::Obj;
 use om_seq::AllocResult;
@@ -55,16 +55,46 @@ fn is_end(kind: AccessKind) -> bool {
     }
 }
 
+/// Two accesses of a variable that race, and who makes them.
+#[derive(Clone, Copy)]
+pub struct Meeting<'a> {
+    pub pair: &'a Pair,
+    /// The name of the variable where it is a local one, as far as it is known.
+    pub name: &'a [u8],
+    /// Who makes the first access of the pair.
+    pub first: &'a Racer,
+    /// Who makes the second one.
+    pub second: &'a Racer,
+}
+
 // Appends both accesses of a race, the variable, and who stands before them.
 fn push_race(text: &mut Vec<u8>, program: &Program, race: &FoundRace) -> AllocResult<()> {
-    push_access(text, b"line ", &race.pair.first)?;
+    push_meeting(
+        text,
+        program,
+        &Meeting {
+            pair: &race.pair,
+            name: &[],
+            first: &race.first,
+            second: &race.second,
+        },
+    )
+}
+
+/// Appends two accesses that race, the variable, and who makes them in which critical regions.
+pub fn push_meeting(
+    text: &mut Vec<u8>,
+    program: &Program,
+    meeting: &Meeting<'_>,
+) -> AllocResult<()> {
+    push_access(text, b"line ", &meeting.pair.first)?;
     text.extend_from_slice(b" ")?;
-    push_variable(text, program, &race.pair.object)?;
-    push_access(text, b", line ", &race.pair.second)?;
+    push_variable(text, program, &meeting.pair.object, meeting.name)?;
+    push_access(text, b", line ", &meeting.pair.second)?;
     text.extend_from_slice(b" it; ")?;
-    push_racer(text, program, &race.first)?;
+    push_racer(text, program, meeting.first)?;
     text.extend_from_slice(b", ")?;
-    push_racer(text, program, &race.second)?;
+    push_racer(text, program, meeting.second)?;
     text.extend_from_slice(b"\n")
 }
 
@@ -77,25 +107,40 @@ fn push_access(text: &mut Vec<u8>, before: &[u8], place: &Place) -> AllocResult<
     }
 }
 
-// Appends a variable: a global by its name, with the index in an array; a local one by its task, the ordinal of its
-// frame, its slot and its index.
-fn push_variable(text: &mut Vec<u8>, program: &Program, object: &Obj) -> AllocResult<()> {
+// Appends a variable: a global by its name, with the index in an array; a local one by its name, where that is known,
+// or else by its task, the ordinal of its frame, its slot and its index.
+fn push_variable(
+    text: &mut Vec<u8>,
+    program: &Program,
+    object: &Obj,
+    name: &[u8],
+) -> AllocResult<()> {
     match object {
         Obj::Global { variable, index } => push_global(text, program, *variable, *index),
-        Obj::Cell {
-            task,
-            frame,
-            slot,
-            index,
-        } => {
-            text.extend_from_slice(b"cell ")?;
-            task.text(text)?;
-            push_numbered(text, b"/", *frame)?;
-            push_numbered(text, b"/", *slot)?;
-            push_numbered(text, b"/", *index)
-        }
+        Obj::Cell { .. } => match name {
+            [] => push_cell(text, object),
+            [_, ..] => text.extend_from_slice(name),
+        },
         _ => Ok(()),
     }
+}
+
+// Appends a cell by its numbers.
+fn push_cell(text: &mut Vec<u8>, object: &Obj) -> AllocResult<()> {
+    let Obj::Cell {
+        task,
+        frame,
+        slot,
+        index,
+    } = object
+    else {
+        return Ok(());
+    };
+    text.extend_from_slice(b"cell ")?;
+    task.text(text)?;
+    push_numbered(text, b"/", *frame)?;
+    push_numbered(text, b"/", *slot)?;
+    push_numbered(text, b"/", *index)
 }
 
 fn push_global(

@@ -8,7 +8,7 @@ use om_state::Blocked;
 use std::alloc::Global;
 
 /// Appends a number and a word, which is in the plural unless there is one.
-pub(crate) fn push_counted(text: &mut Vec<u8>, count: u64, word: &[u8]) -> AllocResult<()> {
+pub fn push_counted(text: &mut Vec<u8>, count: u64, word: &[u8]) -> AllocResult<()> {
     push_number(text, count)?;
     text.extend_from_slice(b" ")?;
     text.extend_from_slice(word)?;

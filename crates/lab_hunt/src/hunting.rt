@@ -20,7 +20,8 @@ use std::thread::Threads;
 /// ended, or where that task ends and something else was printed than is wanted: what is expected, else what
 /// `run` alone leads to. Where `run` alone comes to no end within 100,000 steps and nothing is expected, it is
 /// what the first schedule prints that comes to an end. First `run` alone is judged, and then the schedule of
-/// each seed; `progress` is told before each seed, and how a bad one is made short. Schedules are tried on a
+/// each seed; `progress` is told before each seed, of the history of each schedule that is not bad, and how a
+/// bad one is made short. It is told of that of `run` also where that is bad. Schedules are tried on a
 /// machine. Before one is answered the debugger runs its script, and what that leaves is judged: the text is
 /// what it wrote.
 ///
@@ -43,6 +44,7 @@ pub fn hunt<H: Threads + Wait + Sync, P: Progress>(
     let Some(book) = book else {
         return Ok(Hunted::Refused(text));
     };
+    progress.played(alloc, 0, book.machine())?;
     let Alone { wanted, end } = alone_of(alloc, book, aims.expected)?;
     if let Some(end) = end {
         return Ok(Hunted::Found(Found {

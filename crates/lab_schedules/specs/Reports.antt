@@ -62,7 +62,7 @@ abbrev pub found_text : Found → List ℕ
 found_text found = words_text found ++ codes "\n" ++ found.script.items
 
 abbrev pub limits_text : List ℕ
-limits_text = codes "These are not all schedules, " ++ codes "and this is no race detector.\n"
+limits_text = codes "These are not all schedules.\n"
 
 -- how many seeds there were
 abbrev pub several_seeds : ℕ → List ℕ

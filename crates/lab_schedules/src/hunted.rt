@@ -5,6 +5,9 @@ ghost use Rattle.lab_schedules.specs.Seeds.{last_seed};
 
 use crate::block::Block;
 use lab_judge::{End, Standard, Wanted};
+use om_seq::AllocResult;
+use om_undo::Machine;
+use std::alloc::Global;
 
 /// The seeds of a hunt: those after one, up to another. So hunts of other seeds go on other machines.
 #[derive(Clone, Copy)]
@@ -47,6 +50,10 @@ pub struct Aims<'a> {
 pub trait Progress {
     /// The schedule of this seed is tried next. The last seed of the hunt is `last`.
     fn tell(&mut self, seed: u64, last: u64);
+
+    /// The schedule of a seed was played and is not bad; this machine holds its history. The seed is 0 for `run` alone. The
+    /// only error is out of memory.
+    fn played(&mut self, alloc: Global, seed: u64, machine: &Machine) -> AllocResult<()>;
 
     /// The schedule of a seed is bad, as these words say: the first line of the report, without its end. The
     /// schedule is made short next.

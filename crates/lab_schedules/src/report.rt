@@ -162,8 +162,7 @@ fn push_some_unconfirmed(text: &mut Vec<u8>, unconfirmed: u64) -> AllocResult<()
 fn push_limits(text: &mut Vec<u8>) -> AllocResult<()>
     ensures { OnOk result (text.new.items ≡ text.old.items ++ limits_text) }
 {
-    text.extend_from_slice(b"These are not all schedules, ")?;
-    text.extend_from_slice(b"and this is no race detector.\n")
+    text.extend_from_slice(b"These are not all schedules.\n")
 }
 
 fn push_found(text: &mut Vec<u8>, found: &Found) -> AllocResult<()>

@@ -69,7 +69,7 @@ impl Chances {
     /// Tries the schedule of each seed after this one, and answers the first that is bad, made short. Where it is
     /// not known what is wanted, a schedule that comes to an end is answered too, as it is.
     ///
-    /// `progress` is told before each, and how a bad one is made short. Its only error is out of memory.
+    /// `progress` is told before each, of the history of each that is not bad, and how a bad one is made short. Its only error is out of memory.
     pub fn next<P: Progress>(
         &mut self,
         alloc: Global,
@@ -116,6 +116,7 @@ fn blocks_of<P: Progress>(
             Ok(Some((blocks, true)))
         }
         None => {
+            progress.played(alloc, seed, &player.machine)?;
             let settles = ground.wanted.text.is_none() && has_ended(player.machine.control(0));
             // What the debugger makes of the schedule takes memory, too.
             player.rewind();

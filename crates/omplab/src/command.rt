@@ -95,7 +95,8 @@ fn hunt<'a>(alloc: Global) -> AllocResult<Command<'a>> {
         .about("Tries schedules by chance, and shortens the first bad one to a script for ompback")
         .after_help(
             "A schedule is bad where the program prints something else, meets a fault, or is stuck.
-This is no exploration of all schedules and no race detector.",
+Where none is bad, the races of the first history that has some are told, and the status is 1.
+This is no exploration of all schedules.",
         );
     let command = command.arg(first_seed(alloc));
     let command = with(command, seeds(alloc));
@@ -175,7 +176,17 @@ fn races<'a>(alloc: Global) -> AllocResult<Command<'a>> {
     let command = Command::new(alloc, "races")
         .about("Looks at all schedules for accesses that meet, with both lines of each pair")
         .after_help(SCHEDULES);
-    limited(alloc, command)
+    let session = session(alloc)?;
+    with(limited(alloc, command), session)
+}
+
+// Of one history there is nothing to limit, and its way is the commands.
+fn session<'a>(alloc: Global) -> AllocResult<Arg<'a>> {
+    Arg::new(alloc, "session")
+        .long("session")
+        .help("Reads commands on standard input, and judges the one history that they leave")
+        .action(ArgAction::SetTrue)
+        .conflicts_with_all(&["states", "steps", "script"])
 }
 
 // A command with the limits of an exploration, and its file.

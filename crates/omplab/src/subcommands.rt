@@ -10,6 +10,7 @@ use lab_check_kinds::checked;
 use lab_draw::{Page, page};
 use lab_hunt::{Aims, Hunted, Seeds, push_report};
 use lab_notes::annotate;
+use lab_races_answer::Watch;
 use lab_script::{Script, ScriptFault, cone, script};
 use lab_text::status::{BAD, DONE, FAULT, REFUSED};
 use om_seq::AllocResult;
@@ -134,25 +135,43 @@ pub(crate) fn hunt<H: Runtime + Threads + Wait + Sync, W: Write>(
     };
     let mut meter = Meter::new(host.rt, host.is_watched);
     let source = host.options.source.unwrap_or(&[]);
-    let hunted = lab_hunt::hunt(host.rt, host.alloc, source, &aims, &mut meter);
+    let mut watch = Watch::over(&mut meter);
+    let hunted = lab_hunt::hunt(host.rt, host.alloc, source, &aims, &mut watch);
+    let raced = watch.into_raced();
     meter.end();
     match hunted {
         Ok(Hunted::Refused(_)) => host.refuse(source),
-        Ok(hunted) => report_on(host.alloc, &hunted, writer),
+        Ok(hunted) => report_on(host.alloc, &hunted, raced, writer),
         Err(fault) => Err(within(fault)),
     }
 }
 
-// Writes what came of a hunt.
-fn report_on<W: Write>(alloc: Global, hunted: &Hunted, writer: &mut W) -> Result<u8, ShellFault> {
+// Writes what came of a hunt; where it found no bad schedule, also the races of a history.
+fn report_on<W: Write>(
+    alloc: Global,
+    hunted: &Hunted,
+    raced: Option<Vec<u8>>,
+    writer: &mut W,
+) -> Result<u8, ShellFault> {
     let mut text = Vec::new(alloc);
     push_report(&mut text, hunted)?;
     let status = match hunted {
-        Hunted::Nothing { .. } => DONE,
+        Hunted::Nothing { .. } => push_raced(&mut text, raced)?,
         Hunted::Found(_) => BAD,
         Hunted::Refused(_) => REFUSED,
     };
     written(writer, &text, status)
+}
+
+// Appends the races of a history, if there are some, and answers the exit status.
+fn push_raced(text: &mut Vec<u8>, raced: Option<Vec<u8>>) -> AllocResult<u8> {
+    match raced {
+        Some(raced) => {
+            text.extend_from_slice(&raced)?;
+            Ok(BAD)
+        }
+        None => Ok(DONE),
+    }
 }
 
 /// Passes answers on, with words after them.
@@ -226,7 +245,7 @@ pub(crate) fn draw<H: Threads + Wait + Sync, R: Read, W: Write>(
 
 // The fault of a session that was run apart: such a session writes into memory, which takes every byte for which there
 // is room.
-fn within(fault: ShellFault) -> ShellFault {
+pub(crate) fn within(fault: ShellFault) -> ShellFault {
     match fault {
         ShellFault::Write => ShellFault::Memory,
         other => other,

@@ -53,6 +53,10 @@ pub enum Asked<'a> {
         /// The number, from 1, of the end or pair whose commands are asked for.
         script: Option<u64>,
     },
+    /// To judge the history that a session leaves: which of its steps race.
+    Judge {
+        file: &'a str,
+    },
     /// To write the steps that a session leaves as a script, or those of a cone.
     Script {
         file: Option<&'a str>,
@@ -134,7 +138,7 @@ fn asked_by<'a>(name: &str, given: &ArgMatches<'a>) -> Option<Asked<'a>> {
         },
         "hunt" => hunt_by(file?, given)?,
         "explore" => explore_by(file?, Subject::Ends, given)?,
-        "races" => explore_by(file?, Subject::Races, given)?,
+        "races" => races_by(file?, given)?,
         "script" => Asked::Script {
             file,
             cone: given.get_one::<u64>("cone"),
@@ -143,6 +147,15 @@ fn asked_by<'a>(name: &str, given: &ArgMatches<'a>) -> Option<Asked<'a>> {
         "draw" => Asked::Draw { file },
         _ => return None,
     })
+}
+
+// What is asked for of races: those of a session, or of all schedules.
+fn races_by<'a>(file: &'a str, given: &ArgMatches<'a>) -> Option<Asked<'a>> {
+    if given.get_flag("session") {
+        Some(Asked::Judge { file })
+    } else {
+        explore_by(file, Subject::Races, given)
+    }
 }
 
 // What is asked for of all schedules.
