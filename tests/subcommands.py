@@ -117,6 +117,17 @@ NO_POINTER = """a.c:3:6: error: port: a pointer has no form here
 help: pass an index of a global array
 a.c:3:6: error: S3: """
 
+# Two assignments, of two steps each; and commands with macros.
+TWO = "int x;\nint main(void)\n{\n    x = 1;\n    x = 2;\n}\n"
+MACROS = "# to line 5\nuntil 0 5\nuntil 0 x\nprint x\nstep 0 x 3\nuntil 1 4\nuntil 7 4\nuntil 0 y\nstep 0 x 0\nuntil 0\n"
+PLAIN_COMMANDS = "step 0\n" * 4 + "print x\n" + "step 0\n" * 3
+WRONG_MACROS = """line 6: until: a step before it can't be made
+line 7: until: H2 bad argument
+line 8: until: H2 bad argument
+line 9: x: H2 bad argument
+line 10: until: H2 bad argument
+"""
+
 # What is tried, its words, its source, its input, the status, and the texts that are wanted on standard output and on standard
 # error.
 ROWS = [
@@ -135,6 +146,9 @@ ROWS = [
     ("no function is named where two stand on a line", ["notes"], ON_A_LINE, "refused by #3 worker 1 on cell 0/0/0/0\n", 0, "refused by #3 worker 1 on cell 0/0/0/0 | x\n", ""),
     ("a lost update is found", [*HUNT, "--expect", "2\\n"], RACE, "", 1, 'seed 5: printed "1\\n", wanted "2\\n"\n' + SHORTENED, ""),
     ("what `run` prints is told", HUNT, RACE, "", 1, 'seed 5: printed "1\\n", where `run` prints "2\\n"\n' + SHORTENED, ""),
+    ("macros are written as commands", ["script", "--plain"], TWO, MACROS, 0, PLAIN_COMMANDS, WRONG_MACROS),
+    ("an `until` has an end", ["script", "--plain", "--steps", "100"], ENDLESS, "until 0 5\n", 0, "", "line 1: until: not reached in 100 steps\n"),
+    ("an `until` stops at a fault", ["script", "--plain"], FAULTY, "step 0 x 1\nuntil 0 9\n", 0, "step 0\n", "line 2: until: the worker meets a fault before it\n"),
     ("the line of a fault is told", ["hunt", "--seeds", "1", "--steps", "10"], FAULTY, "", 1, FAULT, ""),
     ("nothing was compared", ["hunt", "--seeds", "1", "--steps", "10"], ENDLESS, "", 0, NO_END, ""),
     ("no hunt of a refused source", HUNT, STATIC, "", 5, "", LEFT_OUT),

@@ -21,6 +21,16 @@ const SESSION: &str =
     "Without FILE, standard input holds the source up to a line `%%`, and then commands of ompback.
 With FILE, standard input holds commands alone.";
 
+const MACROS: &str =
+    "Without FILE, standard input holds the source up to a line `%%`, and then commands of ompback.
+With FILE, standard input holds commands alone.
+
+With --plain the commands may have macros:
+  # WORDS       a comment
+  step 1 x 20   a command of a worker, so many times
+  until W L     steps of worker W, until it comes from another line to line L
+  until W VAR   steps of worker W, until it changes the global variable";
+
 // The number of workers, which each subcommand takes before or after its name.
 fn threads<'a>(alloc: Global) -> Arg<'a> {
     Arg::new(alloc, "threads")
@@ -130,9 +140,28 @@ fn expect<'a>(alloc: Global) -> Arg<'a> {
 fn script<'a>(alloc: Global) -> AllocResult<Command<'a>> {
     let command = Command::new(alloc, "script")
         .about("Writes the steps that a session leaves as a script for ompback")
-        .after_help(SESSION);
+        .after_help(MACROS);
     let command = command.arg(cone(alloc));
+    let command = with(command, plain(alloc));
+    let command = with(command, walk(alloc));
     with(command, file(alloc, false))
+}
+
+fn plain<'a>(alloc: Global) -> Arg<'a> {
+    Arg::new(alloc, "plain")
+        .long("plain")
+        .help("Writes the commands themselves, with macros taken away, in place of the steps")
+        .action(ArgAction::SetTrue)
+}
+
+fn walk<'a>(alloc: Global) -> Arg<'a> {
+    number(
+        alloc,
+        "steps",
+        "M",
+        "How many steps an `until` makes at most",
+    )
+    .default_value("10000")
 }
 
 fn cone<'a>(alloc: Global) -> Arg<'a> {

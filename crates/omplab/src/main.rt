@@ -21,7 +21,7 @@ mod words;
 use crate::explore::explore;
 use crate::faults::{source_in, told};
 use crate::port::port;
-use crate::subcommands::{Host, Search, check, draw, explain, hunt, keep};
+use crate::subcommands::{Host, Search, check, draw, explain, hunt, keep, plain};
 use crate::words::{Asked, Words, ask_for_version, words_in};
 use clap::Error;
 use clap::error::ErrorKind;
@@ -93,6 +93,10 @@ fn done<R: Runtime + Threads + Wait + Sync>(
             explore(host, &question, &mut writer)
         }
         Asked::Notes { .. } => explain(host, &mut host.rt.reader(), &mut writer),
+        Asked::Script {
+            plain: Some(most),
+            ..
+        } => plain(host, most, &mut host.rt.reader(), &mut writer),
         Asked::Script { cone, .. } => keep(host, cone, &mut host.rt.reader(), &mut writer),
         Asked::Draw { .. } => draw(host, &mut host.rt.reader(), &mut writer),
     }

@@ -9,8 +9,10 @@ use lab_check::{Report, report};
 use lab_check_kinds::checked;
 use lab_draw::{Page, page};
 use lab_hunt::{Aims, Hunted, push_report};
+use lab_macros::{Expanded, Place, expand};
 use lab_notes::annotate;
 use lab_script::{Script, ScriptFault, cone, script};
+use lab_text::first_line;
 use lab_text::status::{BAD, DONE, FAULT, REFUSED};
 use om_seq::AllocResult;
 use om_shell::{Options, ShellFault, read_all, send, session_bytes};
@@ -197,6 +199,35 @@ pub(crate) fn keep<H: Runtime + Threads + Wait + Sync, R: Read, W: Write>(
             let _ = host.rt.eprintln(fault);
             Ok(FAULT)
         }
+    }
+}
+
+/// Writes the commands that a command file with macros stands for. Which macros stand for nothing goes to standard
+/// error.
+pub(crate) fn plain<H: Threads + Wait + Sync, R: Read, W: Write>(
+    host: &Host<'_, '_, H>,
+    most: u64,
+    reader: &mut R,
+    writer: &mut W,
+) -> Result<u8, ShellFault>
+    requires least { 0 < host.now.options.workers }
+    requires most { host.now.options.workers ≤ 32 }
+{
+    let input = read_all(host.alloc, reader)?;
+    let session = session_bytes(host.options.source, &input);
+    let place = Place {
+        workers: host.options.workers,
+        source: session.source,
+        most,
+        first: first_line(&input, session.commands),
+    };
+    match expand(host.rt, host.alloc, &place, session.commands) {
+        Ok(Expanded::Commands { lines, told }) => {
+            host.tell(&told);
+            written(writer, &lines, DONE)
+        }
+        Ok(Expanded::Refused(_)) => host.refuse(session.source),
+        Err(fault) => Err(within(fault)),
     }
 }
 

@@ -56,6 +56,8 @@ pub enum Asked<'a> {
         file: Option<&'a str>,
         /// The serial of the step whose cone is asked for.
         cone: Option<u64>,
+        /// How many steps an `until` makes at most, where the commands themselves are asked for.
+        plain: Option<u64>,
     },
     /// To pass answers on with words after them.
     Notes {
@@ -136,6 +138,7 @@ fn asked_by<'a>(name: &str, given: &ArgMatches<'a>) -> Option<Asked<'a>> {
         "script" => Asked::Script {
             file,
             cone: given.get_one::<u64>("cone"),
+            plain: plain_by(given)?,
         },
         "notes" => Asked::Notes { file: file? },
         "draw" => Asked::Draw { file },
@@ -154,6 +157,12 @@ fn explore_by<'a>(file: &'a str, subject: Subject, given: &ArgMatches<'a>) -> Op
         },
         script: given.get_one::<u64>("script"),
     })
+}
+
+// How many steps an `until` makes at most, where the commands themselves are asked for.
+fn plain_by(given: &ArgMatches<'_>) -> Option<Option<u64>> {
+    let most = given.get_one::<u64>("steps")?;
+    Some(given.get_flag("plain").then_some(most))
 }
 
 // What a hunt asks for.
