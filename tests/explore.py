@@ -38,7 +38,7 @@ class Report:
             if numbered:
                 self.told.append(numbered[2])
             elif line.startswith("   "):
-                self.paths.append(blocks_of(line.strip()))
+                self.paths.append(line.strip())
             elif line.startswith("fault: "):
                 self.beside.append("fault " + line[7:].removesuffix(", in no end"))
             elif line.startswith(("race: ", "lifetime: ")):
@@ -47,10 +47,10 @@ class Report:
                 self.notes.append(line)
 
 
-def blocks_of(text):
+def blocks_of(parts):
     """The blocks of a path: a worker, and how many steps it makes or which task it starts."""
     blocks = []
-    for part in [] if text == "no step" else text.split(", "):
+    for part in parts:
         steps, start = re.fullmatch(r"(\d+) of worker (\d+)", part), re.fullmatch(r"task ([\d.]+) by worker (\d+)", part)
         blocks.append((int(steps[2]), int(steps[1])) if steps else (int(start[2]), tuple(map(int, start[1].split(".")))))
     return blocks
@@ -107,15 +107,25 @@ def races_differ(report, found, workers):
     return wrong
 
 
+def stands_at(program, workers, path):
+    """Where a path leads, with what its last words say: None where it leads nowhere."""
+    *parts, last = path.removeprefix("then ").split(", ")
+    last = last.removeprefix("then ")
+    walker = walked(program, workers, blocks_of(parts))
+    if walker is not None and last == "`run`":
+        walker.run()
+    return walker if last in ("`run`", "no worker can move", "both stand there") else None
+
+
 def paths_differ(program, workers, ends, races):
     """The paths that do not lead to what is told."""
     wrong = []
     for text, path in zip(ends.told, ends.paths):
-        walker = walked(program, workers, path)
+        walker = stands_at(program, workers, path)
         if walker is None or walker.moves() or walker.ending() != text:
             wrong.append(f"the path does not lead to the end {text}")
     for text, path in zip(races.told, races.paths):
-        walker = walked(program, workers, path)
+        walker = stands_at(program, workers, path)
         if walker is None or text not in standing(walker):
             wrong.append(f"the path does not lead to the pair {text}")
     return wrong if len(ends.told) == len(ends.paths) and len(races.told) == len(races.paths) else wrong + ["a path is missing"]

@@ -94,9 +94,61 @@ REFUSED_UNDO = "line 8: undo 0: refused by #11 worker 1 on global x\n"
 
 NO_END = """nothing bad in the schedule of 1 seed
 `run` came to no end, and no seed did: no output was compared; give more --steps
-These are not all schedules, and this is no race detector.
+These are not all schedules.
 """
 HUNT = ["hunt", "--seeds", "20", "--steps", "1000"]
+
+# A program with a race that does no harm, and one without a race.
+HARMLESS = RACE.replace("x = x + 1", "x = 1")
+MENDED = RACE.replace("    x = x + 1", "#pragma omp atomic\n    x = x + 1")
+HARMS_NOT = """nothing bad in the schedules of 20 seeds
+These are not all schedules.
+`run`: 1 race in this history of 14 steps
+1: line 6 writes x, line 6 writes it; worker 0, worker 1
+"""
+
+# What is told of the races of one history.
+JUDGE = ["races", "--session"]
+JUDGED = """2 races in this history of 18 steps; other schedules may have others
+1: line 6 reads x, line 6 writes it; worker 1, worker 0
+   #3 of worker 1 was made before #8 of worker 0, and nothing orders them
+2: line 6 writes x, line 6 writes it; worker 0, worker 1
+   #8 of worker 0 was made before #12 of worker 1, and nothing orders them
+"""
+NO_STEPS = "no race in this history of 0 steps; other schedules may have some\n"
+
+# Sessions of examples/races, and their races: found by hand, from the loads and stores that a model makes.
+RACES = os.path.join(os.path.dirname(os.path.abspath(__file__)), "..", "examples", "races")
+BOTH_INSIDE = "break 10\nrun 1000\nstep 0\n" + "next 1\n" * 6 + "next 0\nundo 1\n"
+BETWEEN = "worker 0 in critical (deposit), worker 1 in critical (withdraw)"
+INSIDE = f"""4 races in this history of 41 steps; other schedules may have others
+1: line 10 reads balance, line 18 writes it; {BETWEEN}
+   #16 of worker 0 was made before #38 of worker 1, and nothing orders them
+2: line 10 writes balance, line 17 reads it; {BETWEEN}
+   #31 of worker 1 was made before #41 of worker 0, and nothing orders them
+3: line 10 writes balance, line 18 reads it; {BETWEEN}
+   #35 of worker 1 was made before #41 of worker 0, and nothing orders them
+4: line 10 writes balance, line 18 writes it; {BETWEEN}
+   #38 of worker 1 was made before #41 of worker 0, and nothing orders them
+"""
+BEYOND = """2 races in this history of 237 steps; other schedules may have others
+1: line 14 writes in[3], line 18 reads it; worker 1, worker 0
+   #67 of worker 0 was made before #87 of worker 1, and nothing orders them
+2: line 14 writes in[2], line 18 reads it; worker 0, worker 1
+   #26 of worker 0 was made before #117 of worker 1, and nothing orders them
+"""
+LAST_TASK_FIRST = "break 22\nrun 100000\nstep 0\nnext 1\nnext 1\nstart 1 0.1.0.3\nnext 1\nnext 1\n" + "run 100000\n" * 3
+TOO_EARLY = """1 race in this history of 47 steps; other schedules may have others
+1: line 8 writes cooked, line 9 reads it; worker 0, worker 1
+   #14 of worker 1 was made before #29 of worker 0, and nothing orders them
+"""
+
+
+def race(name):
+    """The source of one of the nine races."""
+    with open(os.path.join(RACES, name + ".c")) as file:
+        return file.read()
+
 
 # A source that has a form, what it becomes, and what is told of its changes.
 WIDER = "static int x = 3;\nint main(void)\n{\n\tlong n = 10L;\n\treturn EXIT_SUCCESS;\n}\n"
@@ -117,6 +169,24 @@ NO_POINTER = """a.c:3:6: error: port: a pointer has no form here
 help: pass an index of a global array
 a.c:3:6: error: S3: """
 
+FOUR_SEEDS = """nothing bad in the schedules of 4 seeds
+These are not all schedules.
+`run`: 2 races in this history of 18 steps
+1: line 6 reads x, line 6 writes it; worker 1, worker 0
+2: line 6 writes x, line 6 writes it; worker 0, worker 1
+"""
+
+# Two assignments, of two steps each; and commands with macros.
+TWO = "int x;\nint main(void)\n{\n    x = 1;\n    x = 2;\n}\n"
+MACROS = "# to line 5\nuntil 0 5\nuntil 0 x\nprint x\nstep 0 x 3\nuntil 1 4\nuntil 7 4\nuntil 0 y\nstep 0 x 0\nuntil 0\n"
+PLAIN_COMMANDS = "step 0\n" * 4 + "print x\n" + "step 0\n" * 3
+WRONG_MACROS = """line 6: until: a step before it can't be made
+line 7: until: H2 bad argument
+line 8: until: H2 bad argument
+line 9: x: H2 bad argument
+line 10: until: H2 bad argument
+"""
+
 # What is tried, its words, its source, its input, the status, and the texts that are wanted on standard output and on standard
 # error.
 ROWS = [
@@ -135,8 +205,24 @@ ROWS = [
     ("no function is named where two stand on a line", ["notes"], ON_A_LINE, "refused by #3 worker 1 on cell 0/0/0/0\n", 0, "refused by #3 worker 1 on cell 0/0/0/0 | x\n", ""),
     ("a lost update is found", [*HUNT, "--expect", "2\\n"], RACE, "", 1, 'seed 5: printed "1\\n", wanted "2\\n"\n' + SHORTENED, ""),
     ("what `run` prints is told", HUNT, RACE, "", 1, 'seed 5: printed "1\\n", where `run` prints "2\\n"\n' + SHORTENED, ""),
+    ("a hunt begins with another seed", ["hunt", "--first-seed", "5", "--seeds", "1", "--steps", "1000"], RACE, "", 1, 'seed 5: printed "1\\n", where `run` prints "2\\n"\n' + SHORTENED, ""),
+    ("a hunt ends before another seed", ["hunt", "--seeds", "4", "--steps", "1000"], RACE, "", 1, FOUR_SEEDS, ""),
+    ("the first seed is told", ["hunt", "--first-seed", "3", "--seeds", "2", "--steps", "1000"], RACE, "", 1, FOUR_SEEDS.replace("4 seeds", "2 seeds, from seed 3 on"), ""),
+    ("macros are written as commands", ["script", "--plain"], TWO, MACROS, 0, PLAIN_COMMANDS, WRONG_MACROS),
+    ("an `until` has an end", ["script", "--plain", "--steps", "100"], ENDLESS, "until 0 5\n", 0, "", "line 1: until: not reached in 100 steps\n"),
+    ("an `until` stops at a fault", ["script", "--plain"], FAULTY, "step 0 x 1\nuntil 0 9\n", 0, "step 0\n", "line 2: until: the worker meets a fault before it\n"),
     ("the line of a fault is told", ["hunt", "--seeds", "1", "--steps", "10"], FAULTY, "", 1, FAULT, ""),
     ("nothing was compared", ["hunt", "--seeds", "1", "--steps", "10"], ENDLESS, "", 0, NO_END, ""),
+    ("a race that does no harm is told", HUNT, HARMLESS, "", 1, HARMS_NOT, ""),
+    ("no race is told where atomic updates are the only accesses", HUNT, MENDED, "", 0, "nothing bad in the schedules of 20 seeds\nThese are not all schedules.\n", ""),
+    ("the races of a session are told", JUDGE, RACE, "step 0\nstep 1\nstep 1\nrun 100\n", 1, JUDGED, ""),
+    ("critical regions of two names order nothing", JUDGE, race("two-critical-names"), BOTH_INSIDE, 1, INSIDE, "line 11: undo 1: refused by #41 worker 0 on global balance\n"),
+    ("a loop without its barrier orders nothing", JUDGE, race("nowait"), "run 100000\n", 1, BEYOND, ""),
+    ("a loop with its barrier orders all", JUDGE, race("nowait.fixed"), "run 100000\n", 4, "no race in this history of 241 steps; other schedules may have some\n", ""),
+    ("tasks are ordered with a wait alone", JUDGE, race("task-order"), LAST_TASK_FIRST, 1, TOO_EARLY, "line 5: next 1: blocked B1\n"),
+    ("one history is not all", JUDGE, RACE, "", 4, NO_STEPS, ""),
+    ("which commands were turned down is told with the races", JUDGE, RACE, "stepp 0\n", 4, NO_STEPS, "line 1: stepp 0: H1 unknown command\n"),
+    ("no races of the session of a refused source", JUDGE, STATIC, "", 5, "", LEFT_OUT),
     ("no hunt of a refused source", HUNT, STATIC, "", 5, "", LEFT_OUT),
     ("no schedules of a refused source", ["explore"], STATIC, "", 5, "", LEFT_OUT),
     ("no races of a refused source", ["races"], STATIC, "", 5, "", LEFT_OUT),
@@ -162,9 +248,11 @@ BEGUN = [
     ("what has no form is written as it is", ["port"], POINTS, "", 1, POINTS, NO_POINTER),
     ("all schedules are looked at", ["explore"], RACE, "", 1, "complete: 2 ends, in all schedules of 2 workers\n", ""),
     ("accesses meet", ["races"], RACE, "", 1, "complete: 2 pairs of accesses meet, in all schedules of 2 workers\n", ""),
+    ("a team is smaller than asked for, in all schedules", ["explore"], THREE, "", 0, "complete: 1 end, in all schedules of 2 workers\n1: ended 0, printed \"\"\n   `run`\n", "a.c:3:22: note: with --threads 2 this team has at most 2; give omplab and ompback --threads 3\n"),
     ("one worker has one schedule", ["explore", "--threads", "1"], RACE, "", 0, 'complete: 1 end, in all schedules of 1 worker\n1: ended 0, printed "1\\n"\n', ""),
     ("not all is looked at", ["races", "--states", "1"], RACE, "", 4, "not complete: more than 1 state; so far no two accesses meet\n", ""),
     ("steps are limited", ["explore", "--steps", "1"], RACE, "", 4, "stopped: behind 1 step, as --steps asks; so far 0 ends\n", ""),
+    ("one history has no number of states", [*JUDGE, "--states", "1"], RACE, "", 2, "", "error: the argument '--session' cannot be used with '--states <M>'"),
     ("words are wrong", ["hunts"], "", "", 2, "", "error: unrecognized subcommand 'hunts'"),
     ("a subcommand is missing", [], "", "", 2, "", "error: "),
 ]

@@ -905,18 +905,26 @@ def listing(source, changes, lacks):
 
 def main():
     """Ports the source on the standard input."""
+    from port_arguments import argument_edits
     from port_arrays import array_edits
+    from port_calls import call_edits
+    from port_conditions import condition_edits
     from port_prints import print_edits
+    from port_sizes import size_edits
     from port_stages import list_edits, name_edits
     source = sys.stdin.buffer.read()
-    named, names = staged(source, name_edits)
-    sized, arrays = staged(named, array_edits)
+    decided, conditions = staged(source, condition_edits)
+    called, calls = staged(decided, call_edits)
+    named, names = staged(called, name_edits)
+    given, arguments = staged(named, argument_edits)
+    sized, arrays = staged(given, array_edits)
     listed, lists = staged(sized, list_edits)
-    printed, texts = staged(listed, print_edits)
+    counted, sizes = staged(listed, size_edits)
+    printed, texts = staged(counted, print_edits)
     again, more = staged(printed, print_edits)
     text, changes, lacks = ruled(again)
-    told = listing(source, names, []) + listing(named, arrays, []) + listing(sized, lists, [])
-    told += listing(listed, texts, []) + listing(printed, more, []) + listing(again, changes, lacks)
+    told = listing(source, conditions, []) + listing(decided, calls, []) + listing(called, names, []) + listing(named, arguments, []) + listing(given, arrays, []) + listing(sized, lists, [])
+    told += listing(listed, sizes, []) + listing(counted, texts, []) + listing(printed, more, []) + listing(again, changes, lacks)
     sys.stdout.buffer.write(text + b'====\n' + told)
 
 

@@ -11,8 +11,11 @@ READS, WRITES, ENDS = "reads", "writes", "ends"
 LIFE_ENDS = ("CLEAR", "RET", "RETN", "LEAVE", "TEND")
 UPDATES = ("ATOM", "ATOMX")
 AWAITED = {1: " at a barrier", 3: " for tasks that it made", 8: " for tasks of its taskgroup"}
-# A step that can be made: who makes it, the task that it starts or None, its line, its operation, and what it touches.
-Move = namedtuple("Move", "worker choice line operation is_atomic plan")
+# What names a variable that it loads, stores or updates.
+NAMING = ("LOAD", "STORE", "LOADX", "STOREX", *UPDATES, "RED")
+# A step that can be made: who makes it, the task that it starts or None, its line, its operation, the local variable that its
+# instruction names or None, and what it touches.
+Move = namedtuple("Move", "worker choice line operation named is_atomic plan")
 # What is found in all schedules. `is_trapped` says that from some state no steps lead to an end, `goes_round` that some steps lead from
 # a state back to it; `states` and `steps` are how many there were.
 Found = namedtuple("Found", "is_complete ends faults meetings is_trapped goes_round states steps")
@@ -79,8 +82,19 @@ class Walker(Machine):
                 plan = self.plan(worker, choice)
                 if isinstance(plan, Done):
                     is_atomic = operation in UPDATES or frame.next in frame.body.atomic
-                    found.append(Move(worker, choice, plan.line, operation if choice is None else None, is_atomic, plan))
+                    named = local_named(frame.body, frame.next) if choice is None else None
+                    found.append(Move(worker, choice, plan.line, operation if choice is None else None, named, is_atomic, plan))
         return found
+
+    def run(self):
+        """Steps, each by the least worker that has one: its next, else the start of the least task. A fault ends them."""
+        while not self.faults():
+            moves = self.moves()
+            if not moves:
+                return
+            own = [move for move in moves if move.worker == moves[0].worker]
+            move = min(own, key=lambda move: (move.choice is not None, move.choice or ()))
+            self.row = self.row_behind(self.row, move.plan.updates)
 
     def faults(self):
         """(fault, worker, line) of each worker that has met one."""
@@ -90,7 +104,7 @@ class Walker(Machine):
     def waiting(self, worker):
         plan = self.plan(worker)
         if plan.code == 2:
-            why = f" for a critical region that worker {plan.by} is in"
+            why = f" for {region_text(self.lock_before(worker))}, held by worker {plan.by}"
         else:
             why = f" for worker {plan.by}" if plan.code == 4 else AWAITED[plan.code]
         return f"; worker {worker} waits in line {self.line(worker)}{why}"
@@ -111,7 +125,16 @@ class Walker(Machine):
     def regions_of(self, worker):
         """The critical regions that a worker is in, in words. The locks come in the order in which their names stand in the source."""
         locks = [name for name in self.locks if self.get(("lock", name)) == worker]
-        return "".join(f" in critical{'' if name == '-' else ' ' + name}" for name in locks)
+        return "".join(f" in {region_text(name)}" for name in locks)
+
+    def lock_before(self, worker):
+        """The name of the critical region before which a worker stands."""
+        frame = self.top(worker).frames[-1]
+        return frame.body.code[frame.next][1]
+
+
+def region_text(name):
+    return "critical" if name == "-" else f"critical ({name})"
 
 
 def fault_text(fault):
@@ -130,6 +153,27 @@ def are_ordered(first, second):
     return first.is_atomic and second.is_atomic or first.operation == second.operation == "RED"
 
 
+def local_named(body, place):
+    """The local variable that an instruction names. One that combines a copy names the copy."""
+    operation, *arguments = body.code[place]
+    references = [argument for argument in arguments if isinstance(argument, tuple) and argument[0] == "slot"]
+    if operation not in NAMING or not references:
+        return None
+    slot = arguments[1] if operation == "RED" else references[0][1]
+    return body.region.slots[slot][0]
+
+
+def variable_text(object, first, second):
+    """A variable by its name, with the index in an array. A local one that neither step names is told as a cell."""
+    if object[0] == "global":
+        return Machine.text_of(object).replace("global ", "")
+    variable = first.named or second.named
+    if variable is None:
+        return Machine.text_of(object)
+    owner = "" if name_text(object[1]) == "0" else f" of task {name_text(object[1])}"
+    return variable.name + ("" if variable.size is None else f"[{object[-1]}]") + owner
+
+
 def accesses(move):
     """The variable of each access of a step, and what is done to it there."""
     for object, mode in move.plan.footprint:
@@ -146,9 +190,11 @@ def meetings_of(first, second):
         for other, other_kind in accesses(second):
             if object == other and (kind, other_kind) != (READS, READS):
                 rank = (READS, WRITES, ENDS).index
-                low, high = sorted([(first.line, rank(kind)), (second.line, rank(other_kind))])
+                one, other_one = (first.line, rank(kind)), (second.line, rank(other_kind))
+                steps = (first, second) if one <= other_one else (second, first)
+                low, high = sorted([one, other_one])
                 names = READS, WRITES, ENDS
-                yield low[0], names[low[1]], high[0], names[high[1]], Machine.text_of(object).replace("global ", "")
+                yield low[0], names[low[1]], high[0], names[high[1]], variable_text(object, *steps)
 
 
 def explore(program, workers, most_states):

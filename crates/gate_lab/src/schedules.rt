@@ -1,13 +1,21 @@
-//! What is found in all schedules, in an order of its own. Paths, numbers, who stands before an access and how much was
-//! looked at depend on the order of the search, and are left out.
+//! What is found in all schedules, and in one, in an order of its own. Paths, numbers, who stands before an access and
+//! how much was looked at depend on the order of the search, and are left out.
+
+ghost use Rattle.std.specs.Prelude.{◌<◌, ◌≤◌};
 
 use crate::sections::{Given, cut};
 use crate::subcommands::{Written, number_in, output_of, refused};
+use lab_explore::Unwatched;
 use lab_explore_answer::{Question, Subject, answer, status_of};
 use lab_explore_closed::Limits;
+use lab_races_answer::{Judged, judge};
 use lab_script::ScriptFault;
+use lab_text::status::{BAD, NOT_COMPLETE};
 use om_seq::AllocResult;
+use om_shell::Options;
 use std::alloc::Global;
+use std::sync::Wait;
+use std::thread::Threads;
 
 // How many states are stored at most, where the words do not say it.
 const MOST_STATES: u64 = 1_000_000;
@@ -35,12 +43,40 @@ pub(crate) fn explored(
         },
         script: None,
     };
-    match answer(alloc, given.source, &question)? {
+    match answer(alloc, given.source, &question, &mut Unwatched)? {
         Some(answer) => {
             let text = facts(alloc, str::from_utf8(&answer.text).unwrap_or("no text"))?;
             Ok(output_of(alloc, status_of(answer.finding), text))
         }
         None => Ok(refused(alloc, given, Vec::new(alloc))?),
+    }
+}
+
+/// What is found in the one history that a session leaves: how many races, and then each.
+pub(crate) fn judged<R: Threads + Wait + Sync>(
+    rt: &R,
+    alloc: Global,
+    given: Given<'_>,
+    options: Options<'_>,
+) -> Result<Written, ScriptFault>
+    requires at_least_one { 0 < options.workers }
+    requires at_most_32 { options.workers ≤ 32 }
+{
+    let mut reader = given.input.unwrap_or(&[]);
+    match judge(rt, alloc, &mut reader, options)? {
+        Judged::Told {
+            report,
+            has_races,
+            turned_down,
+        } => {
+            let report = str::from_utf8(&report).unwrap_or("no text");
+            Ok(Written {
+                status: if has_races { BAD } else { NOT_COMPLETE },
+                text: facts(alloc, report)?,
+                told: turned_down,
+            })
+        }
+        Judged::Refused => Ok(refused(alloc, given, Vec::new(alloc))?),
     }
 }
 
@@ -55,11 +91,17 @@ fn facts(alloc: Global, report: &str) -> AllocResult<Vec<u8>> {
     }
     lines.sort()?;
     let mut text = Vec::new(alloc);
-    push_line(&mut text, first)?;
+    push_line(&mut text, count_in(first))?;
     for line in &lines {
         push_line(&mut text, line)?;
     }
     Ok(text)
+}
+
+// A first line, without how many steps the history has.
+fn count_in(first: &str) -> &str {
+    let (count, _) = first.split_once(" in this history").unwrap_or((first, ""));
+    count
 }
 
 // Whether a line says how much was looked at.

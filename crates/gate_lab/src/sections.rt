@@ -1,7 +1,8 @@
 //! The sections of the input, and what is told of each.
 //!
 //! A section begins with a line `== HEAD`. The next line is a subcommand with its numbers: `check`, `script`,
-//! `cone SERIAL`, `notes`, `draw`, `boxes` (which counts those of a page), `hunt SEEDS STEPS`, or `explore WORKERS`
+//! `macros STEPS`, `cone SERIAL`, `notes`, `draw`, `boxes` (which counts those of a page), `hunt SEEDS STEPS` and its
+//! first seed where that is not 1, `judge`, or `explore WORKERS`
 //! and `races WORKERS`, with how many states are stored at most. Below it stands a C source. After a line `%%` stands the input: commands, answers, or what the program of a hunt is to print. The line end before the next head is no
 //! part of the input. So an empty line follows an input that ends with a line end.
 //!

@@ -3,11 +3,12 @@
 ghost use Rattle.std.specs.Prelude.{◌≡◌};
 
 use crate::hunts::hunted;
-use crate::schedules::explored;
+use crate::schedules::{explored, judged};
 use crate::sections::{Given, cut};
 use lab_check::{Report, report};
 use lab_draw::{Page, page};
 use lab_explore_answer::Subject;
+use lab_macros::{Expanded, Place, expand};
 use lab_notes::annotate;
 use lab_script::{Script, ScriptFault, cone, script};
 use lab_text::status::{BAD, DONE, REFUSED, WORDS};
@@ -47,7 +48,9 @@ pub(crate) fn written_by<R: Threads + Wait + Sync>(
         "hunt" => hunted(rt, alloc, numbers, given),
         "explore" => explored(alloc, Subject::Ends, numbers, given),
         "races" => explored(alloc, Subject::Races, numbers, given),
+        "judge" => judged(rt, alloc, given, options(given)),
         "script" => scripted(rt, alloc, given),
+        "macros" => plain(rt, alloc, number_in(numbers), given),
         "cone" => coned(rt, alloc, number_in(numbers), given),
         "notes" => noted(alloc, given),
         "draw" => drawn(rt, alloc, given),
@@ -106,6 +109,29 @@ fn scripted<R: Threads + Wait + Sync>(
     let mut reader = given.input.unwrap_or(&[]);
     let script = script(rt, alloc, &mut reader, options(given))?;
     Ok(lines_of(alloc, given, script)?)
+}
+
+// The commands that macros stand for, where an `until` makes so many steps at most.
+fn plain<R: Threads + Wait + Sync>(
+    rt: &R,
+    alloc: Global,
+    most: u64,
+    given: Given<'_>,
+) -> Result<Written, ScriptFault> {
+    let place = Place {
+        workers: WORKERS,
+        source: given.source,
+        most,
+        first: 1,
+    };
+    match expand(rt, alloc, &place, given.input.unwrap_or(&[]))? {
+        Expanded::Commands { lines, told } => Ok(Written {
+            status: DONE,
+            text: lines,
+            told,
+        }),
+        Expanded::Refused(_) => Ok(refused(alloc, given, Vec::new(alloc))?),
+    }
 }
 
 // The steps that a roll would take.

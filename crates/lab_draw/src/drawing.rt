@@ -5,7 +5,8 @@ ghost use Rattle.om_book.specs.Books.{machine_of};
 ghost use Rattle.lab_draw.specs.Pages.{HasElements, IsDrawing, IsShown, Shows};
 
 use crate::beside::{Beside, beside_of, push_beside};
-use crate::front::push_front;
+use crate::front::{Front, push_front};
+use crate::harm::harm_of;
 use crate::marks::push_boxes;
 use crate::outcome::Page;
 use crate::scale::Scale;
@@ -13,6 +14,7 @@ use crate::session::{Heard, hear};
 use crate::strokes::push_arrows;
 use crate::style::FOOT;
 use lab_graph::{Picture, picture_of};
+use lab_races_history::races_of;
 use lab_replay::trace;
 use om_book::Book;
 use om_code::Program;
@@ -76,9 +78,17 @@ fn drawn(alloc: Global, source: &[u8], book: &Book) -> AllocResult<Vec<u8>>
 {
     let machine = book.machine();
     let steps = trace(alloc, machine)?;
+    let races = races_of(alloc, machine, &steps)?;
     let picture = picture_of(alloc, &steps)?;
     let beside = beside_of(alloc, book, &steps, &picture)?;
-    let front = front_of(alloc, machine.program(), source, &picture, &beside)?;
+    let harm = harm_of(alloc, machine.program(), &steps, &picture.boxes, &races)?;
+    let front = Front {
+        source,
+        boxes: &picture.boxes,
+        harm: &harm,
+        extent: beside.extent,
+    };
+    let front = front_of(alloc, machine.program(), front, &beside)?;
     with_elements(front, machine.program(), beside.extent.scale, &picture)
 }
 
@@ -86,12 +96,11 @@ fn drawn(alloc: Global, source: &[u8], book: &Book) -> AllocResult<Vec<u8>>
 fn front_of(
     alloc: Global,
     program: &Program,
-    source: &[u8],
-    picture: &Picture,
+    front: Front<'_>,
     beside: &Beside<'_>,
 ) -> AllocResult<Vec<u8>> {
     let mut text = Vec::new(alloc);
-    push_front(alloc, &mut text, source, &picture.boxes, beside.extent)?;
+    push_front(alloc, &mut text, front)?;
     push_beside(&mut text, program, beside)?;
     Ok(text)
 }

@@ -1,6 +1,7 @@
 //! The page up to its picture: the source, the words above the picture, and the lanes.
 
 use crate::escape::{push_attribute, push_escaped};
+use crate::harm::{Harm, push_races, push_rings};
 use crate::marks::push_hue;
 use crate::scale::Scale;
 use crate::style::{FEWER, HEAD, HEADS, LEGEND, WORDS_END};
@@ -39,21 +40,27 @@ impl Extent {
 // From how many steps on a page says how fewer are drawn.
 const MANY: usize = 5_000;
 
+/// What stands before the elements of the picture.
+#[derive(Clone, Copy)]
+pub(crate) struct Front<'a> {
+    pub(crate) source: &'a [u8],
+    pub(crate) boxes: &'a [StepBox],
+    pub(crate) harm: &'a Harm,
+    pub(crate) extent: Extent,
+}
+
 /// Appends all that stands before the elements of the picture.
-pub(crate) fn push_front(
-    alloc: Global,
-    text: &mut Vec<u8>,
-    source: &[u8],
-    boxes: &[StepBox],
-    extent: Extent,
-) -> AllocResult<()> {
+pub(crate) fn push_front(alloc: Global, text: &mut Vec<u8>, front: Front<'_>) -> AllocResult<()> {
     text.extend_from_slice(HEAD)?;
-    push_source(text, source, &lines_of(alloc, boxes)?)?;
+    push_source(text, front.source, &lines_of(alloc, front.boxes)?)?;
     text.extend_from_slice(b"<main>\n")?;
-    push_words(text, boxes.len())?;
-    push_lane_names(text, extent)?;
-    push_picture_begin(text, extent)?;
-    push_lanes(text, extent)
+    push_words(text, front.boxes.len())?;
+    push_races(text, front.harm)?;
+    text.extend_from_slice(b"<div>\n")?;
+    push_lane_names(text, front.extent)?;
+    push_picture_begin(text, front.extent)?;
+    push_lanes(text, front.extent)?;
+    push_rings(text, front.extent, front.harm)
 }
 
 // Appends how many steps there are.

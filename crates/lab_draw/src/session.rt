@@ -13,18 +13,18 @@ use std::thread::Threads;
 
 /// What comes of a session that was run.
 #[derive(Drop)]
-pub(crate) struct Heard {
+pub struct Heard {
     /// All that it wrote.
-    pub(crate) text: Vec<u8>,
+    pub text: Vec<u8>,
     /// The book of its commands; `None` where the source was refused.
-    pub(crate) book: Option<Book>,
+    pub book: Option<Book>,
     /// A line for each command that was turned down, as `turned_down` of lab_text writes it.
-    pub(crate) turned_down: Vec<u8>,
+    pub turned_down: Vec<u8>,
 }
 
 /// Runs a session whose input was read, and lists the commands that were turned down. Faults are those of the
 /// debugger: H3 where the input takes more than 2^32 reads, H5 when out of memory.
-pub(crate) fn hear<H: Threads + Wait + Sync>(
+pub fn hear<H: Threads + Wait + Sync>(
     rt: &H,
     alloc: Global,
     input: &[u8],

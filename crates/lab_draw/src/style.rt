@@ -29,6 +29,9 @@ text{font-size:11px;fill:var(--ink)}
 .step rect,rect.step{fill:hsl(var(--h) var(--soft) var(--fill));stroke:hsl(var(--h) var(--soft) var(--edge))}
 .step.fault rect,rect.step.fault{stroke:var(--refused);stroke-width:5}
 .step text:last-child{font-size:9.5px}
+.races{white-space:pre-wrap;max-height:20vh;overflow:auto}
+.harm{fill:none;stroke:var(--refused);stroke-width:2;stroke-dasharray:2 3}
+#harm{outline:none}
 .gone rect,rect.gone{fill:none;stroke:var(--gone);stroke-dasharray:3 2}
 .gone text{fill:var(--dim)}
 .arrow line,.refused line{stroke:var(--arrow);stroke-width:1.3;marker-end:url(#head)}
@@ -54,7 +57,7 @@ pub(crate) const LEGEND: &[u8] =
     b" steps that stand. An arrow goes from a step to a later one of another \
 worker that conflicts with it, and names the object. Those at a worker's control, as from a fork to each \
 step of a new worker, are faint, and not shown among marks. Grey: taken out. Outlined in red: a step that \
-met a fault. Red, broken: an undo that was refused.";
+met a fault. In a dotted frame: steps that race; where none do, those that met a fault. Red, broken: an undo that was refused.";
 
 /// What stands behind the legend of a page with many steps.
 pub(crate) const FEWER: &[u8] =
@@ -62,7 +65,7 @@ pub(crate) const FEWER: &[u8] =
 here. A shorter session draws fewer, and so do `undo` and `roll`.";
 
 /// What ends the words above the picture.
-pub(crate) const WORDS_END: &[u8] = b"</p>\n<div>\n";
+pub(crate) const WORDS_END: &[u8] = b"</p>\n";
 
 /// What stands in the picture before its lanes: the heads of arrows.
 pub(crate) const HEADS: &[u8] = b"<defs><marker id='head' viewBox='0 0 8 8' refX='8' refY='4' \

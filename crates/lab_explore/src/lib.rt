@@ -10,5 +10,7 @@
 mod explored;
 mod search;
 mod todo;
+mod watch;
 
 pub use explored::explore;
+pub use watch::{Unwatched, Watch};

@@ -1,2 +1,3 @@
 pub mod Findings
+pub mod Scripts
 pub mod Answers

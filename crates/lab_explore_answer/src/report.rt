@@ -1,27 +1,34 @@
 //! The report: the first line says whether all was looked at.
 
 use crate::asked::{Question, Subject};
-use crate::racing::{push_numbered_races, push_races};
-use crate::words::{push_counted, push_ends, push_faults_beside};
-use lab_explore_closed::{Explored, Verdict};
-use om_code::Program;
+use crate::racing::{word_for, worded_races};
+use crate::ways::{push_way, push_way_to_race};
+use crate::words::{push_counted, push_faults_beside, push_place, worded_ends};
+use lab_explore_closed::{Explored, FoundRace, Verdict};
+use lab_explore_ways::{Retracer, ShortWays};
 use om_seq::AllocResult;
 use om_shell_commands::push_numbered;
 use std::alloc::Global;
 
-/// The report on an exploration of a program. Its only error is out of memory.
+/// The report on an exploration of a program, which a retracer makes steps of. Its only error is out of memory.
 pub(crate) fn report(
     alloc: Global,
-    program: &Program,
+    retracer: &mut Retracer,
     question: &Question,
-    explored: &Explored,
+    short: &ShortWays,
 ) -> AllocResult<Vec<u8>> {
+    let explored = &short.explored;
+    let races = explored.races.as_slice();
     let mut text = Vec::new(alloc);
     push_first(&mut text, question, explored)?;
     match question.subject {
-        Subject::Ends => push_all(alloc, &mut text, program, explored)?,
+        Subject::Ends => {
+            push_ends(alloc, &mut text, retracer, short)?;
+            push_faults_beside(&mut text, explored)?;
+            push_races(alloc, &mut text, retracer, races)?;
+        }
         Subject::Races => {
-            push_numbered_races(alloc, &mut text, program, explored.races.as_slice())?;
+            push_numbered_races(alloc, &mut text, retracer, races)?;
             push_stopped_workers(&mut text, explored)?;
         }
     }
@@ -30,16 +37,59 @@ pub(crate) fn report(
     Ok(text)
 }
 
-fn push_all(
+// Appends the ends, each with its number and the way that leads there.
+fn push_ends(
     alloc: Global,
     text: &mut Vec<u8>,
-    program: &Program,
-    explored: &Explored,
+    retracer: &mut Retracer,
+    short: &ShortWays,
 ) -> AllocResult<()> {
-    let ends = explored.ends.as_slice();
-    push_ends(alloc, text, ends)?;
-    push_faults_beside(text, explored)?;
-    push_races(text, program, explored.races.as_slice())
+    let ends = short.explored.ends.as_slice();
+    let mut number: u64 = 0;
+    for worded in worded_ends(alloc, retracer, ends)?.as_slice() {
+        number = number.saturating_add(1);
+        push_place(text, number)?;
+        text.extend_from_slice(worded.words.as_slice())?;
+        if let Some(end) = ends.get(worded.index) {
+            push_way(alloc, text, end, short.told_of(worded.index))?;
+        }
+    }
+    Ok(())
+}
+
+// Appends the races, each with its number and the way that leads there.
+fn push_numbered_races(
+    alloc: Global,
+    text: &mut Vec<u8>,
+    retracer: &mut Retracer,
+    races: &[FoundRace],
+) -> AllocResult<()> {
+    let mut number: u64 = 0;
+    for worded in worded_races(alloc, retracer, races)?.as_slice() {
+        number = number.saturating_add(1);
+        push_place(text, number)?;
+        text.extend_from_slice(worded.words.as_slice())?;
+        if let Some(race) = races.get(worded.index) {
+            push_way_to_race(alloc, text, race)?;
+        }
+    }
+    Ok(())
+}
+
+// Appends the races, each behind a word.
+fn push_races(
+    alloc: Global,
+    text: &mut Vec<u8>,
+    retracer: &mut Retracer,
+    races: &[FoundRace],
+) -> AllocResult<()> {
+    for worded in worded_races(alloc, retracer, races)?.as_slice() {
+        if let Some(race) = races.get(worded.index) {
+            text.extend_from_slice(word_for(race))?;
+        }
+        text.extend_from_slice(worded.words.as_slice())?;
+    }
+    Ok(())
 }
 
 // Appends whether all was looked at, and how much was found.

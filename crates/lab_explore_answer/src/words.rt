@@ -1,14 +1,17 @@
 //! Ends and faults in words.
 
-use crate::blocks::push_path;
+use crate::order::{Worded, insert};
+use crate::regions::{lock_before, push_region};
 use lab_explore_closed::{Ending, Explored, FoundEnd, Met, Verdict, Wait};
+use lab_explore_ways::Retracer;
 use om_seq::AllocResult;
 use om_shell_commands::{push_number, push_numbered};
 use om_state::Blocked;
+use om_undo::Machine;
 use std::alloc::Global;
 
 /// Appends a number and a word, which is in the plural unless there is one.
-pub(crate) fn push_counted(text: &mut Vec<u8>, count: u64, word: &[u8]) -> AllocResult<()> {
+pub fn push_counted(text: &mut Vec<u8>, count: u64, word: &[u8]) -> AllocResult<()> {
     push_number(text, count)?;
     text.extend_from_slice(b" ")?;
     text.extend_from_slice(word)?;
@@ -24,35 +27,51 @@ pub(crate) fn push_place(text: &mut Vec<u8>, number: u64) -> AllocResult<()> {
     text.extend_from_slice(b": ")
 }
 
-/// Appends the ends, each with its number and the path that leads there.
-pub(crate) fn push_ends(alloc: Global, text: &mut Vec<u8>, ends: &[FoundEnd]) -> AllocResult<()> {
-    let mut number: u64 = 0;
-    for end in ends {
-        number = number.saturating_add(1);
-        push_place(text, number)?;
-        push_ending(text, &end.ending)?;
-        text.extend_from_slice(b"\n")?;
-        push_path(alloc, text, end.path.as_slice())?;
+/// Ends in words, by kind: with faults, stuck, ended. The only error is out of memory.
+pub(crate) fn worded_ends(
+    alloc: Global,
+    retracer: &mut Retracer,
+    ends: &[FoundEnd],
+) -> AllocResult<Vec<Worded>> {
+    let mut all = Vec::new(alloc);
+    for (index, end) in ends.iter().enumerate() {
+        let words = words_of(alloc, retracer, end)?;
+        let rank = (kind_of(&end.ending), 0);
+        insert(&mut all, Worded { rank, words, index })?;
     }
-    Ok(())
+    Ok(all)
 }
 
-fn push_ending(text: &mut Vec<u8>, ending: &Ending) -> AllocResult<()> {
+// The number of the kind of an ending, in the order in which they are told.
+fn kind_of(ending: &Ending) -> u32 {
     match ending {
+        Ending::Faults(_, _) => 0,
+        Ending::Sticks(_, _) => 1,
+        Ending::Ends(_, _) => 2,
+    }
+}
+
+// The line of an ending.
+fn words_of(alloc: Global, retracer: &mut Retracer, end: &FoundEnd) -> AllocResult<Vec<u8>> {
+    let mut text = Vec::new(alloc);
+    match &end.ending {
         Ending::Faults(mets, output) => {
-            push_mets(text, mets.as_slice())?;
-            push_printed(text, output.as_slice())
+            push_mets(&mut text, mets.as_slice())?;
+            push_printed(&mut text, output.as_slice())?;
         }
         Ending::Ends(value, output) => {
-            push_numbered(text, b"ended ", *value)?;
-            push_printed(text, output.as_slice())
+            push_numbered(&mut text, b"ended ", *value)?;
+            push_printed(&mut text, output.as_slice())?;
         }
         Ending::Sticks(output, waits) => {
             text.extend_from_slice(b"stuck")?;
-            push_printed(text, output.as_slice())?;
-            push_waits(text, waits.as_slice())
+            push_printed(&mut text, output.as_slice())?;
+            retracer.follow(alloc, end.path.as_slice())?;
+            push_waits(&mut text, retracer.machine(), waits.as_slice())?;
         }
     }
+    text.extend_from_slice(b"\n")?;
+    Ok(text)
 }
 
 fn push_mets(text: &mut Vec<u8>, mets: &[Met]) -> AllocResult<()> {
@@ -89,27 +108,37 @@ fn push_byte(text: &mut Vec<u8>, byte: u8) -> AllocResult<()> {
     }
 }
 
-fn push_waits(text: &mut Vec<u8>, waits: &[Wait]) -> AllocResult<()> {
+// Appends who waits in which line for what, where a machine stands.
+fn push_waits(text: &mut Vec<u8>, machine: &Machine, waits: &[Wait]) -> AllocResult<()> {
     for wait in waits {
         push_numbered(text, b"; worker ", wait.worker)?;
         push_numbered(text, b" waits in line ", wait.line)?;
         if let Some(why) = wait.blocked {
-            push_awaited(text, why)?;
+            push_awaited(text, machine, wait.worker, why)?;
         }
     }
     Ok(())
 }
 
 // Appends what a worker waits for.
-fn push_awaited(text: &mut Vec<u8>, why: Blocked) -> AllocResult<()> {
+fn push_awaited(
+    text: &mut Vec<u8>,
+    machine: &Machine,
+    worker: u8,
+    why: Blocked,
+) -> AllocResult<()> {
     match why {
         Blocked::Barrier => text.extend_from_slice(b" at a barrier"),
-        Blocked::Critical(worker) => {
-            push_numbered(text, b" for a critical region that worker ", worker)?;
-            text.extend_from_slice(b" is in")
+        Blocked::Critical(holder) => {
+            text.extend_from_slice(b" for ")?;
+            match lock_before(machine, worker) {
+                Some(lock) => push_region(text, machine.program(), lock)?,
+                None => text.extend_from_slice(b"critical")?,
+            }
+            push_numbered(text, b", held by worker ", holder)
         }
         Blocked::Children => text.extend_from_slice(b" for tasks that it made"),
-        Blocked::Busy(worker) => push_numbered(text, b" for worker ", worker),
+        Blocked::Busy(other) => push_numbered(text, b" for worker ", other),
         Blocked::Group => text.extend_from_slice(b" for tasks of its taskgroup"),
         Blocked::Idle | Blocked::Task | Blocked::Place => Ok(()),
     }

@@ -72,7 +72,7 @@ fn ends_lives(instruction: Option<Instr>) -> bool
 }
 
 /// How an instruction accesses a variable that it touches in a mode.
-pub(crate) fn kind_of(instruction: Option<Instr>, mode: Mode) -> AccessKind
+pub fn kind_of(instruction: Option<Instr>, mode: Mode) -> AccessKind
     ensures { result ≡ kind_of instruction mode }
 {
     match mode {

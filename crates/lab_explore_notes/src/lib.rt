@@ -15,4 +15,6 @@ mod races;
 mod same;
 mod way;
 
+pub use kinds::kind_of;
 pub use notes::Notes;
+pub use same::{is_same_ending, is_same_pair};

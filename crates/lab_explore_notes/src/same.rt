@@ -94,7 +94,7 @@ fn are_same_bytes(a: &[u8], b: &[u8]) -> bool
 }
 
 /// Whether two endings are the same.
-pub(crate) fn is_same_ending(a: &Ending, b: &Ending) -> bool
+pub fn is_same_ending(a: &Ending, b: &Ending) -> bool
     ensures { result ≡ same_ending a.now b.now }
 {
     match (a, b) {
@@ -126,7 +126,7 @@ fn is_same_object(a: &Obj, b: &Obj) -> bool
 }
 
 /// Whether two pairs of accesses are the same.
-pub(crate) fn is_same_pair(a: &Pair, b: &Pair) -> bool
+pub fn is_same_pair(a: &Pair, b: &Pair) -> bool
     ensures { result ≡ same_pair a.now b.now }
 {
     is_same_place(&a.first, &b.first)

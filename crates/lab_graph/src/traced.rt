@@ -1,5 +1,6 @@
 //! The entries of a history, each with what its step touched and what it did.
 
+use lab_races::Manner;
 use om_seq::Seq;
 use om_state::Entry;
 use om_undo_touches::Accesses;
@@ -21,4 +22,6 @@ pub struct Traced<'a> {
     pub value: Seq<u8>,
     /// Whether it met a fault.
     pub is_fault: bool,
+    /// How its instruction accesses variables.
+    pub manner: Manner,
 }

@@ -1,5 +1,5 @@
 -- What is promised of a hunt.
-use Rattle.std.specs.Prelude.{◌≡◌, ◌<◌, ◌≤◌, ℕ, suc, List, [], Option, None, Some, IsSomeAnd, option_copied}
+use Rattle.std.specs.Prelude.{◌≡◌, ◌<◌, ◌≤◌, ◌⊎◌, ℕ, suc, List, [], Option, None, Some, IsSomeAnd, option_copied}
 use Rattle.lab_schedules.specs.declared.hunted.Aims.{Aims}
 use Rattle.lab_schedules.specs.declared.hunted.Found.{Found}
 use Rattle.lab_schedules.specs.declared.hunted.Hunted.{Hunted}
@@ -38,12 +38,13 @@ pub record Prints (workers : ℕ) (source printed : List ℕ) : Type 0 where
   pub leaves : Leaves workers (Some source) (schedule_text blocks) text (Some book)
   pub printed_is : wanted_by None (machine_of book) ≡ Some printed
 
--- The seed stands before another one, and a schedule printed this at its end. Which schedule a seed leads to has
--- no definition.
-pub record IsPrintedBefore (workers : ℕ) (source : List ℕ) (before seed : ℕ) (text : Option (List ℕ)) : Type 0 where
-  pub from_one : 0 < seed
-  pub earlier : seed < before
-  pub prints : IsSomeAnd text (Prints workers source)
+-- The seed stands after one and before another, and a schedule printed this at its end. Which schedule a seed leads to
+-- has no definition.
+pub record IsPrintedBetween (workers : ℕ) (source : List ℕ) (after before seed : ℕ) (text : Option (List ℕ)) : Type 0
+  where
+    pub later : after < seed
+    pub earlier : seed < before
+    pub prints : IsSomeAnd text (Prints workers source)
 
 -- What is wanted of the schedule of a seed: what was told, else what `run` alone led to. Where that is not known, it
 -- is what the schedule of an earlier seed led to.
@@ -53,7 +54,7 @@ IsDue aims source alone before standard.Told text =
 IsDue aims source alone before standard.Run text =
     (standard_by (told_in aims) ≡ standard.Run) × (text ≡ wanted_by (told_in aims) alone)
 IsDue aims source alone before (standard.Seed seed) text =
-    (wanted_by (told_in aims) alone ≡ None) × IsPrintedBefore aims.workers source before seed text
+    (wanted_by (told_in aims) alone ≡ None) × IsPrintedBetween aims.workers source aims.seeds.after before seed text
 
 -- a bad schedule is found, of one of the seeds or of `run` alone, and this is wanted
 pub record FindsBad (aims : Aims) (source : List ℕ) (found : Found) : Type 0 where
@@ -61,13 +62,14 @@ pub record FindsBad (aims : Aims) (source : List ℕ) (found : Found) : Type 0 w
   pub alone : BookView
   pub runs : RunsAlone aims.workers source text (Some alone)
   pub is : IsFound aims.workers source found
-  pub within : found.seed ≤ aims.seeds
+  pub from : (found.seed ≡ 0) ⊎ (aims.seeds.after < found.seed)
+  pub within : found.seed ≤ aims.seeds.last
   pub of_run : found.seed ≡ 0 → found.blocks.items ≡ []
   pub due : IsDue aims source (machine_of alone) found.seed found.wanted.standard (text_in found.wanted.text)
 
 -- With what outputs were compared in the end: with what is wanted behind the last seed, where that is known.
 abbrev pub IsCompared : Aims → List ℕ → MachineView → Option Standard → Type 0
-IsCompared aims source alone (Some by) = (text : List ℕ) × IsDue aims source alone (suc aims.seeds) by (Some text)
+IsCompared aims source alone (Some by) = (text : List ℕ) × IsDue aims source alone (suc aims.seeds.last) by (Some text)
 IsCompared aims source alone None = wanted_by (told_in aims) alone ≡ None
 
 -- Nothing is bad where `run` makes all steps. The text is what ompback writes there.

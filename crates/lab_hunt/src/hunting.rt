@@ -7,7 +7,8 @@ ghost use Rattle.lab_hunt.specs.Tries.{IsComparedAfter, IsSought};
 
 use crate::tries::{Field, Tried, Tries};
 use lab_judge::{Alone, Standard, Wanted, alone_of};
-use lab_schedules::{Aims, Found, Ground, Hunted, Progress, script};
+use lab_play::Ground;
+use lab_schedules::{Aims, Found, Hunted, Progress, script};
 use lab_script::{Ran, run_over};
 use om_shell::ShellFault;
 use std::alloc::Global;
@@ -20,7 +21,8 @@ use std::thread::Threads;
 /// ended, or where that task ends and something else was printed than is wanted: what is expected, else what
 /// `run` alone leads to. Where `run` alone comes to no end within 100,000 steps and nothing is expected, it is
 /// what the first schedule prints that comes to an end. First `run` alone is judged, and then the schedule of
-/// each seed; `progress` is told before each seed, and how a bad one is made short. Schedules are tried on a
+/// each seed; `progress` is told before each seed, of the history of each schedule that is not bad, and how a
+/// bad one is made short. It is told of that of `run` also where that is bad. Schedules are tried on a
 /// machine. Before one is answered the debugger runs its script, and what that leaves is judged: the text is
 /// what it wrote.
 ///
@@ -43,6 +45,7 @@ pub fn hunt<H: Threads + Wait + Sync, P: Progress>(
     let Some(book) = book else {
         return Ok(Hunted::Refused(text));
     };
+    progress.played(alloc, 0, book.machine())?;
     let Alone { wanted, end } = alone_of(alloc, book, aims.expected)?;
     if let Some(end) = end {
         return Ok(Hunted::Found(Found {
@@ -94,7 +97,7 @@ fn seek<H: Threads + Wait + Sync, P: Progress>(
     requires at_most_32 { ground.now.workers ≤ 32 }
     ensures { IfOk result (IsSought ground.now field.now.source.now) }
 {
-    let mut tries = Tries::over(field, ground.workers)?;
+    let mut tries = Tries::over(field, ground.workers, ground.seeds.after)?;
     let sought = if ground.wanted.text.is_some() {
         compare(field, ground, &mut tries, progress)
     } else {
@@ -115,6 +118,7 @@ fn settle<H: Threads + Wait + Sync, P: Progress>(
     requires at_least_one { 0 < ground.now.workers }
     requires at_most_32 { ground.now.workers ≤ 32 }
     requires unknown { text_in ground.now.wanted.now.text ≡ None }
+    requires begun { tries.old.seed ≡ ground.now.seeds.after }
     ensures { IfOk result (IsSought ground.now field.now.source.now) }
 {
     match tries.next(field, ground, progress)? {

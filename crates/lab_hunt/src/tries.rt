@@ -5,7 +5,8 @@ ghost use Rattle.lab_judge.specs.Texts.{text_in};
 ghost use Rattle.lab_hunt.specs.Tries.{IsEnding, IsTriedOn};
 
 use lab_judge::{Came, came_of};
-use lab_schedules::{Chances, Found, Ground, Progress, Schedule, script};
+use lab_play::{Chances, Ground, Schedule};
+use lab_schedules::{Found, Progress, script};
 use lab_script::{Ran, run_over};
 use om_frontend::program_of;
 use om_shell::ShellFault;
@@ -36,22 +37,27 @@ pub(crate) enum Tried {
 #[derive(Drop)]
 pub(crate) struct Tries {
     chances: Chances,
-    /// The last seed that was tried; 0 before the first.
+    /// The last seed that was tried; before the first, the one before it.
     pub(crate) seed: u64,
     /// How many bad schedules the debugger did not find bad.
     pub(crate) unconfirmed: u64,
 }
 
 impl Tries {
-    /// None was tried. The source was accepted before, so only memory can be short.
-    pub(crate) fn over<H>(field: &Field<'_, H>, workers: u8) -> Result<Tries, ShellFault>
+    /// None was tried of the seeds after this one. The source was accepted before, so only memory can be short.
+    pub(crate) fn over<H>(
+        field: &Field<'_, H>,
+        workers: u8,
+        after: u64,
+    ) -> Result<Tries, ShellFault>
         requires at_least_one { 1 ≤ workers }
         requires at_most_32 { workers ≤ 32 }
+        ensures { IfOk result (λ tries. tries.seed ≡ after) }
     {
         match program_of(field.alloc, field.source) {
             Ok(program) => Ok(Tries {
                 chances: Chances::new(field.alloc, program, workers)?,
-                seed: 0,
+                seed: after,
                 unconfirmed: 0,
             }),
             Err(_) => Err(ShellFault::Memory),
@@ -71,7 +77,7 @@ impl Tries {
         ensures { IfOk result
             (IsTriedOn field.now.source.now ground.now self.old.seed self.new.seed) }
     {
-        'schedules: for _ in 0..ground.seeds {
+        'schedules: for _ in 0..ground.seeds.last {
             let next = self.chances.next(field.alloc, ground, self.seed, progress)?;
             let Some(schedule) = next else {
                 return Ok(Tried::Nothing);
@@ -93,7 +99,7 @@ impl Tries {
         requires at_least_one { 0 < ground.now.workers }
         requires at_most_32 { ground.now.workers ≤ 32 }
         requires later { self.old.seed < schedule.seed }
-        requires within { schedule.seed ≤ ground.now.seeds }
+        requires within { schedule.seed ≤ ground.now.seeds.last }
         ensures tried { IfOk result (λ tried. IfSome tried
             (IsTriedOn field.now.source.now ground.now self.old.seed self.new.seed)) }
         ensures later { OnOk result (self.old.seed < self.new.seed) }
@@ -115,7 +121,7 @@ impl Tries {
         requires at_least_one { 0 < ground.now.workers }
         requires at_most_32 { ground.now.workers ≤ 32 }
         requires later { self.now.seed < schedule.seed }
-        requires within { schedule.seed ≤ ground.now.seeds }
+        requires within { schedule.seed ≤ ground.now.seeds.last }
         ensures { IfOk result (λ tried. IfSome tried
             (IsTriedOn field.now.source.now ground.now self.now.seed schedule.seed)) }
     {

@@ -1,5 +1,5 @@
 -- Behind a rule that takes pieces, so many marks say that they are taken.
-use Rattle.std.proofs.Common.{◌≡◌, ℕ, zero, suc, ◌==◌, ◌-◌, if◌then◌else◌, false, List, [], ◌∷◌, refl, ap, ◌∙◌, arith}
+use Rattle.std.proofs.Common.{◌≡◌, ℕ, Bool, zero, suc, ◌==◌, ◌-◌, if◌then◌else◌, false, List, [], ◌∷◌, refl, ap, ◌∙◌, arith}
 use Rattle.std.proofs.lemmas.Bool.{ne_eqb}
 use Rattle.lab_port_words.specs.declared.class.Class.{Class}
 use Rattle.lab_port_context.specs.declared.facts.Facts.{Facts}
@@ -11,12 +11,21 @@ use Rattle.lab_port_rules.specs.declared.rule.Meaning.{Meaning}
 use Rattle.lab_port_rules.specs.Marks.{first_place, mark_at, mark_here, taken_by, taken_after, place_behind, marks_from}
 use Rattle.lab_port_tokens.specs.declared.piece.Piece.{Piece}
 use Rattle.lab_port_words.specs.Tables.{classes_of}
+use Rattle.lab_port_conditions.specs.declared.place.Spot.{Spot as ConditionSpot}
+use Rattle.lab_port_conditions.specs.Places.{is_decided, line_mark, macros_behind, first_spot as first_condition, mark_here as condition_here, spot_behind as condition_behind, marks_from as conditions_from}
+use Rattle.lab_port_calls.specs.declared.place.Spot.{Spot as CallSpot}
+use Rattle.lab_port_calls.specs.Places.{names_here as functions_here, found_at as function_at, first_spot as first_call, mark_here as call_here, mark_by as call_by, spot_behind as call_behind, marks_from as called_from}
 use Rattle.lab_port_names.specs.declared.uses.Spot.{Spot as NameSpot}
 use Rattle.lab_port_names.specs.Uses.{names_here, found_at, first_spot as first_name, mark_here as name_here, mark_by as name_by, spot_behind as name_behind, marks_from as named_from}
 use Rattle.lab_port_lists.specs.declared.place.Spot.{Spot as ListSpot}
 use Rattle.lab_port_lists.specs.Places.{names_with, given_size, first_spot as first_list, mark_here as list_here, mark_by as list_by, spot_behind as list_behind, marks_from as listed_from}
+use Rattle.lab_port_arguments.specs.declared.place.Spot.{Spot as ArgumentSpot}
+use Rattle.lab_port_arguments.specs.Tallies.{is_replaced}
+use Rattle.lab_port_arguments.specs.Places.{place_mark as argument_mark, first_spot as first_argument, mark_here as argument_here, spot_behind as argument_behind, marks_from as arguments_from}
 use Rattle.lab_port_arrays.specs.declared.place.Spot.{Spot as ArraySpot}
 use Rattle.lab_port_arrays.specs.Places.{first_spot as first_array, mark_here as array_here, mark_at as array_at, spot_behind as array_behind, marks_from as arrays_from}
+use Rattle.lab_port_sizes.specs.declared.place.Spot.{Spot as SizeSpot}
+use Rattle.lab_port_sizes.specs.Places.{first_spot as first_size, mark_here as size_here, mark_at as size_at, spot_behind as size_behind, marks_from as sizes_from}
 use Rattle.lab_port_prints.specs.declared.place.Spot.{Spot as PrintSpot}
 use Rattle.lab_port_prints.specs.Places.{first_spot as first_print, mark_here as print_here, mark_at as print_at, spot_behind as print_behind, marks_from as printed_from}
 use Rattle.lab_port.specs.declared.stage.Stage.{Stage}
@@ -47,6 +56,45 @@ marks_take facts place (c ∷ rest) (suc taken) same =
       ap (λ k. if k == 0 then mark_at facts place.context c rest else marks.Taken) same
           ∙ ap (λ t. if t then mark_at facts place.context c rest else marks.Taken) later,
       marks_take facts (place_behind place mark c) rest taken
+          (ap (λ k. taken_after k mark) same ∙ ap (λ t. if t then taken_by mark else suc taken - 1) later ∙ left),
+    )
+
+conditions_take : (decided : Bool) (names : List Meaning) (spot : ConditionSpot) (pieces : List Piece) (taken : ℕ)
+    → spot.taken ≡ taken
+    → Fit taken (conditions_from decided names spot pieces)
+conditions_take decided names spot [] zero same = tt
+conditions_take decided names spot [] (suc taken) same = tt
+conditions_take decided names spot (piece ∷ rest) zero same =
+    let mark = condition_here decided names spot piece rest in
+    conditions_take decided (macros_behind names spot piece rest) (condition_behind names spot mark piece rest) rest
+    (taken_by mark) (ap (λ k. taken_after k mark) same)
+conditions_take decided names spot (piece ∷ rest) (suc taken) same =
+    let mark = condition_here decided names spot piece rest in
+    let later = not_first taken in
+    let left : suc taken - 1 ≡ taken = omega arith in
+    let other = if decided then line_mark names spot piece rest else marks.Kept in (
+      ap (λ k. if k == 0 then other else marks.Taken) same ∙ ap (λ t. if t then other else marks.Taken) later,
+      conditions_take decided (macros_behind names spot piece rest) (condition_behind names spot mark piece rest) rest
+          taken
+          (ap (λ k. taken_after k mark) same ∙ ap (λ t. if t then taken_by mark else suc taken - 1) later ∙ left),
+    )
+
+calls_take : (all : List Piece) (names : List Meaning) (spot : CallSpot) (pieces : List Piece) (taken : ℕ)
+    → spot.taken ≡ taken
+    → Fit taken (called_from all names spot pieces)
+calls_take all names spot [] zero same = tt
+calls_take all names spot [] (suc taken) same = tt
+calls_take all names spot (piece ∷ rest) zero same =
+    let mark = call_here names spot piece rest all in
+    calls_take all (functions_here names spot piece rest all) (call_behind spot mark piece rest) rest (taken_by mark)
+    (ap (λ k. taken_after k mark) same)
+calls_take all names spot (piece ∷ rest) (suc taken) same =
+    let mark = call_here names spot piece rest all in
+    let later = not_first taken in
+    let left : suc taken - 1 ≡ taken = omega arith in
+    let other = call_by (function_at spot piece rest all) names spot piece rest in (
+      ap (λ k. if k == 0 then other else marks.Taken) same ∙ ap (λ t. if t then other else marks.Taken) later,
+      calls_take all (functions_here names spot piece rest all) (call_behind spot mark piece rest) rest taken
           (ap (λ k. taken_after k mark) same ∙ ap (λ t. if t then taken_by mark else suc taken - 1) later ∙ left),
     )
 
@@ -88,6 +136,24 @@ lists_take names spot (piece ∷ rest) (suc taken) same =
           (ap (λ k. taken_after k mark) same ∙ ap (λ t. if t then taken_by mark else suc taken - 1) later ∙ left),
     )
 
+arguments_take : (replaced : Bool) (spot : ArgumentSpot) (pieces : List Piece) (taken : ℕ)
+    → spot.taken ≡ taken
+    → Fit taken (arguments_from replaced spot pieces)
+arguments_take replaced spot [] zero same = tt
+arguments_take replaced spot [] (suc taken) same = tt
+arguments_take replaced spot (piece ∷ rest) zero same =
+    let mark = argument_here replaced spot piece rest in
+    arguments_take replaced (argument_behind spot mark piece) rest (taken_by mark) (ap (λ k. taken_after k mark) same)
+arguments_take replaced spot (piece ∷ rest) (suc taken) same =
+    let mark = argument_here replaced spot piece rest in
+    let later = not_first taken in
+    let left : suc taken - 1 ≡ taken = omega arith in
+    let other = if replaced then argument_mark spot.context piece rest else marks.Kept in (
+      ap (λ k. if k == 0 then other else marks.Taken) same ∙ ap (λ t. if t then other else marks.Taken) later,
+      arguments_take replaced (argument_behind spot mark piece) rest taken
+          (ap (λ k. taken_after k mark) same ∙ ap (λ t. if t then taken_by mark else suc taken - 1) later ∙ left),
+    )
+
 arrays_take : (all : List Piece) (spot : ArraySpot) (pieces : List Piece) (taken : ℕ)
     → spot.taken ≡ taken
     → Fit taken (arrays_from all spot pieces)
@@ -103,6 +169,24 @@ arrays_take all spot (piece ∷ rest) (suc taken) same =
     let other = array_at spot piece rest all in (
       ap (λ k. if k == 0 then other else marks.Taken) same ∙ ap (λ t. if t then other else marks.Taken) later,
       arrays_take all (array_behind spot mark piece) rest taken
+          (ap (λ k. taken_after k mark) same ∙ ap (λ t. if t then taken_by mark else suc taken - 1) later ∙ left),
+    )
+
+sizes_take : (all : List Piece) (spot : SizeSpot) (pieces : List Piece) (taken : ℕ)
+    → spot.taken ≡ taken
+    → Fit taken (sizes_from all spot pieces)
+sizes_take all spot [] zero same = tt
+sizes_take all spot [] (suc taken) same = tt
+sizes_take all spot (piece ∷ rest) zero same =
+    let mark = size_here spot piece rest all in
+    sizes_take all (size_behind spot mark piece) rest (taken_by mark) (ap (λ k. taken_after k mark) same)
+sizes_take all spot (piece ∷ rest) (suc taken) same =
+    let mark = size_here spot piece rest all in
+    let later = not_first taken in
+    let left : suc taken - 1 ≡ taken = omega arith in
+    let other = size_at spot piece rest all in (
+      ap (λ k. if k == 0 then other else marks.Taken) same ∙ ap (λ t. if t then other else marks.Taken) later,
+      sizes_take all (size_behind spot mark piece) rest taken
           (ap (λ k. taken_after k mark) same ∙ ap (λ t. if t then taken_by mark else suc taken - 1) later ∙ left),
     )
 
@@ -125,8 +209,12 @@ prints_take spot (piece ∷ rest) (suc taken) same =
     )
 
 pub stage_takes : (stage : Stage) (pieces : List Piece) → Fit 0 (stage_marks stage pieces)
+stage_takes stages.Conditions pieces = conditions_take (is_decided pieces) [] first_condition pieces 0 refl
+stage_takes stages.Calls pieces = calls_take pieces [] (first_call pieces) pieces 0 refl
 stage_takes stages.Names pieces = names_take [] (first_name pieces) pieces 0 refl
+stage_takes stages.Arguments pieces = arguments_take (is_replaced pieces) first_argument pieces 0 refl
 stage_takes stages.Arrays pieces = arrays_take pieces (first_array pieces) pieces 0 refl
 stage_takes stages.Lists pieces = lists_take [] (first_list pieces) pieces 0 refl
+stage_takes stages.Sizes pieces = sizes_take pieces (first_size pieces) pieces 0 refl
 stage_takes stages.Texts pieces = prints_take first_print pieces 0 refl
 stage_takes stages.Rules pieces = marks_take (facts_of (classes_of pieces)) first_place (classes_of pieces) 0 refl

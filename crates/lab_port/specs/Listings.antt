@@ -71,10 +71,14 @@ refusals_part file source refusals =
 -- the lines of the changes, stage by stage
 abbrev pub change_list : List ℕ → List ℕ → Ported → List ℕ
 change_list file source ported =
-    changes_part file source ported.names.changes.items
-    ++ changes_part file ported.names.text.items ported.arrays.changes.items
+    changes_part file source ported.conditions.changes.items
+    ++ changes_part file ported.conditions.text.items ported.calls.changes.items
+    ++ changes_part file ported.calls.text.items ported.names.changes.items
+    ++ changes_part file ported.names.text.items ported.arguments.changes.items
+    ++ changes_part file ported.arguments.text.items ported.arrays.changes.items
     ++ changes_part file ported.arrays.text.items ported.lists.changes.items
-    ++ changes_part file ported.lists.text.items ported.texts.changes.items
+    ++ changes_part file ported.lists.text.items ported.sizes.changes.items
+    ++ changes_part file ported.sizes.text.items ported.texts.changes.items
     ++ changes_part file ported.texts.text.items ported.again.changes.items
     ++ changes_part file ported.again.text.items ported.rules.changes.items
 

@@ -7,9 +7,13 @@ use Rattle.lab_port_rules.specs.declared.mark.Mark.{Mark}
 use Rattle.lab_port_rules.specs.declared.mark.Mark.TheVariants as marks
 use Rattle.lab_port_rules.specs.declared.rule.Meaning.{Meaning}
 use Rattle.lab_port_rules.specs.Marks.{marks_of}
+use Rattle.lab_port_arguments.specs.Places.{argument_marks}
+use Rattle.lab_port_calls.specs.Places.{call_marks, functions_of}
+use Rattle.lab_port_conditions.specs.Places.{condition_marks}
 use Rattle.lab_port_names.specs.Uses.{name_marks, names_of}
 use Rattle.lab_port_arrays.specs.Places.{array_marks}
 use Rattle.lab_port_lists.specs.Places.{list_marks, lists_of}
+use Rattle.lab_port_sizes.specs.Places.{size_marks, sizes_of}
 use Rattle.lab_port_prints.specs.Places.{print_marks}
 use Rattle.lab_port.specs.declared.ported.Change.{Change}
 use Rattle.lab_port.specs.declared.ported.Refusal.{Refusal}
@@ -47,17 +51,25 @@ refusals_from (piece ∷ rest) (mark ∷ more) = refusals_at mark piece ++ refus
 
 -- the marks of the pieces of a text in a stage
 abbrev pub stage_marks : Stage → List Piece → List Mark
+stage_marks stages.Conditions pieces = condition_marks pieces
+stage_marks stages.Calls pieces = call_marks pieces
 stage_marks stages.Names pieces = name_marks pieces
+stage_marks stages.Arguments pieces = argument_marks pieces
 stage_marks stages.Arrays pieces = array_marks pieces
 stage_marks stages.Lists pieces = list_marks pieces
+stage_marks stages.Sizes pieces = size_marks pieces
 stage_marks stages.Texts pieces = print_marks pieces
 stage_marks stages.Rules pieces = marks_of (classes_of pieces)
 
 -- the names that stand for texts in a stage
 abbrev pub stage_names : Stage → List Piece → List Meaning
+stage_names stages.Conditions pieces = []
+stage_names stages.Calls pieces = functions_of pieces
 stage_names stages.Names pieces = names_of pieces
+stage_names stages.Arguments pieces = []
 stage_names stages.Arrays pieces = []
 stage_names stages.Lists pieces = lists_of pieces
+stage_names stages.Sizes pieces = sizes_of pieces
 stage_names stages.Texts pieces = []
 stage_names stages.Rules pieces = []
 
@@ -73,13 +85,14 @@ changes_in stage text = stage_changes stage (pieces_of text)
 abbrev pub after : Stage → List ℕ → List ℕ
 after stage text = with_changes text 0 (changes_in stage text)
 
--- a source with its names written out, behind that with other lengths and indices of its arrays, behind that with stores
--- for its lists, and behind that with a statement for each of the texts that one chooses from
+-- a source with its conditions decided, then its calls of macros and its names written out, behind that without arguments of `main`, behind that
+-- with other lengths and indices of its arrays, behind that with stores for its lists, behind that with numbers of
+-- elements, and behind that with a statement for each of the texts that one chooses from
 abbrev pub named_text : List ℕ → List ℕ
-named_text source = after stages.Names source
+named_text source = after stages.Arguments (after stages.Names (after stages.Calls (after stages.Conditions source)))
 
 abbrev pub listed_text : List ℕ → List ℕ
-listed_text source = after stages.Lists (after stages.Arrays (named_text source))
+listed_text source = after stages.Sizes (after stages.Lists (after stages.Arrays (named_text source)))
 
 abbrev pub printed_text : List ℕ → List ℕ
 printed_text source = after stages.Texts (after stages.Texts (listed_text source))
@@ -103,10 +116,14 @@ pub record IsStep (stage : Stage) (text : List ℕ) (step : Step) : Type 0 where
 -- What a source becomes by its stages, of which that of texts works twice, and the tokens without a form in the text before
 -- the last one.
 pub record Ports (source : List ℕ) (ported : Ported) : Type 0 where
-  pub names : IsStep stages.Names source ported.names
-  pub arrays : IsStep stages.Arrays ported.names.text.items ported.arrays
+  pub conditions : IsStep stages.Conditions source ported.conditions
+  pub calls : IsStep stages.Calls ported.conditions.text.items ported.calls
+  pub names : IsStep stages.Names ported.calls.text.items ported.names
+  pub arguments : IsStep stages.Arguments ported.names.text.items ported.arguments
+  pub arrays : IsStep stages.Arrays ported.arguments.text.items ported.arrays
   pub lists : IsStep stages.Lists ported.arrays.text.items ported.lists
-  pub texts : IsStep stages.Texts ported.lists.text.items ported.texts
+  pub sizes : IsStep stages.Sizes ported.lists.text.items ported.sizes
+  pub texts : IsStep stages.Texts ported.sizes.text.items ported.texts
   pub again : IsStep stages.Texts ported.texts.text.items ported.again
   pub rules : IsStep stages.Rules ported.again.text.items ported.rules
   pub refusals : ported.refusals.items ≡ refusals_of ported.again.text.items

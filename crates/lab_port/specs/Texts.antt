@@ -4,9 +4,12 @@ use Rattle.lab_port_tokens.specs.declared.piece.Piece.{Piece}
 use Rattle.lab_port_tokens.specs.declared.piece.PieceKind.{PieceKind}
 use Rattle.lab_port_tokens.specs.declared.piece.PieceKind.TheVariants as kinds
 use Rattle.lab_port_words.specs.Texts.{without_suffix, plain_format, line_text}
+use Rattle.lab_port_arguments.specs.Places.{main_text}
+use Rattle.lab_port_calls.specs.Written.{call_text}
 use Rattle.lab_port_names.specs.Names.{meaning_of}
 use Rattle.lab_port_arrays.specs.Written.{sized_text, index_text}
 use Rattle.lab_port_lists.specs.Arrays.{array_text, declarator}
+use Rattle.lab_port_sizes.specs.Places.{length_text}
 use Rattle.lab_port_prints.specs.Printed.{statement_text}
 use Rattle.lab_port_rules.specs.declared.rule.Meaning.{Meaning}
 use Rattle.lab_port_rules.specs.declared.rule.Rule.{Rule}
@@ -36,7 +39,6 @@ fixed_text rules.Zero = codes "0"
 fixed_text rules.InParallel = codes "(omp_get_num_threads() > 1)"
 fixed_text rules.PrintError = codes "printf("
 fixed_text rules.PrintOut = codes "printf("
-fixed_text rules.Main = codes "main(void)"
 fixed_text rules.Dynamic = codes "dynamic"
 fixed_text rules.Static = codes "static"
 fixed_text rules.Plus = codes "+"
@@ -54,21 +56,33 @@ plain_text rules.UnsignedSuffix text taken = without_suffix text
 plain_text (rules.Character number) text taken = 32 ∷ decimal number
 plain_text rules.Format text taken = plain_format false text
 plain_text rules.Puts text taken = printed_text (text_among taken)
+plain_text rules.Main text taken = main_text text
 plain_text rule text taken = fixed_text rule
 
 -- the `{` of `main`, and the stores of all arrays that get their values there
 abbrev pub filled_text : List Meaning → List ℕ
 filled_text names = codes "{" ++ flat_map (λ next. next.text) names
 
+-- what stands for a name, or for one with a list of arguments
+abbrev pub used_text : List Meaning → List ℕ → List Piece → List ℕ
+used_text names text [] = meaning_of text names
+used_text names text (piece ∷ rest) = call_text names text (piece ∷ rest)
+
+-- a number without its suffix, or the number of elements that a `sizeof` asks for
+abbrev pub unsigned_text : List Meaning → List ℕ → List Piece → List ℕ
+unsigned_text names text [] = without_suffix text
+unsigned_text names text (piece ∷ rest) = length_text names (piece ∷ rest)
+
 -- the same where these names stand for texts
 abbrev pub new_text : List Meaning → Rule → List ℕ → List Piece → List ℕ
-new_text names rules.Use text taken = meaning_of text names
+new_text names rules.Use text taken = used_text names text taken
 new_text names rules.List text taken = array_text text taken
 new_text names rules.FileList text taken = declarator text taken
 new_text names rules.Fill text taken = filled_text names
 new_text names (rules.Length number) text taken = sized_text text number
 new_text names (rules.FlatArray number) text taken = sized_text text number
 new_text names (rules.FlatIndex columns) text taken = index_text text columns taken
+new_text names rules.UnsignedSuffix text taken = unsigned_text names text taken
 new_text names rules.Text text taken = statement_text taken
 new_text names rule text taken = plain_text rule text taken
 

@@ -25,10 +25,29 @@ pub fn change_list(
     ensures { IfOk result (λ list. list.items ≡ change_list file.now source.now ported.now) }
 {
     let mut out = Vec::new(alloc);
-    push_changes(&mut out, file, source, &ported.names.changes)?;
-    push_changes(&mut out, file, &ported.names.text, &ported.arrays.changes)?;
+    push_changes(&mut out, file, source, &ported.conditions.changes)?;
+    push_changes(
+        &mut out,
+        file,
+        &ported.conditions.text,
+        &ported.calls.changes,
+    )?;
+    push_changes(&mut out, file, &ported.calls.text, &ported.names.changes)?;
+    push_changes(
+        &mut out,
+        file,
+        &ported.names.text,
+        &ported.arguments.changes,
+    )?;
+    push_changes(
+        &mut out,
+        file,
+        &ported.arguments.text,
+        &ported.arrays.changes,
+    )?;
     push_changes(&mut out, file, &ported.arrays.text, &ported.lists.changes)?;
-    push_changes(&mut out, file, &ported.lists.text, &ported.texts.changes)?;
+    push_changes(&mut out, file, &ported.lists.text, &ported.sizes.changes)?;
+    push_changes(&mut out, file, &ported.sizes.text, &ported.texts.changes)?;
     push_changes(&mut out, file, &ported.texts.text, &ported.again.changes)?;
     push_changes(&mut out, file, &ported.again.text, &ported.rules.changes)?;
     Ok(out)

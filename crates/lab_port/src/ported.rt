@@ -49,12 +49,20 @@ pub struct Step {
 /// What a source becomes.
 #[derive(Drop)]
 pub struct Ported {
-    /// The source, with its names written out.
+    /// The source, with its conditions decided.
+    pub conditions: Step,
+    /// That text, with its calls of macros written out.
+    pub calls: Step,
+    /// That text, with its names written out.
     pub names: Step,
+    /// That text, without arguments of `main`.
+    pub arguments: Step,
     /// That text, with other lengths and indices of its arrays.
     pub arrays: Step,
     /// That text, with stores for its lists.
     pub lists: Step,
+    /// That text, with numbers of elements.
+    pub sizes: Step,
     /// That text, with a statement for each text that one chooses from.
     pub texts: Step,
     /// The same once more, for a second text of a statement.
@@ -71,17 +79,25 @@ pub fn port(alloc: Global, source: &[u8]) -> AllocResult<Ported>
     ensures ports { IfOk result (Ports source.now) }
     ensures lines { IfOk result (λ ported. line_feeds ported.rules.text.items ≡ line_feeds source.now) }
 {
-    let names = step_of(alloc, Stage::Names, source)?;
-    let arrays = step_of(alloc, Stage::Arrays, &names.text)?;
+    let conditions = step_of(alloc, Stage::Conditions, source)?;
+    let calls = step_of(alloc, Stage::Calls, &conditions.text)?;
+    let names = step_of(alloc, Stage::Names, &calls.text)?;
+    let arguments = step_of(alloc, Stage::Arguments, &names.text)?;
+    let arrays = step_of(alloc, Stage::Arrays, &arguments.text)?;
     let lists = step_of(alloc, Stage::Lists, &arrays.text)?;
-    let texts = step_of(alloc, Stage::Texts, &lists.text)?;
+    let sizes = step_of(alloc, Stage::Sizes, &lists.text)?;
+    let texts = step_of(alloc, Stage::Texts, &sizes.text)?;
     let again = step_of(alloc, Stage::Texts, &texts.text)?;
     let rules = step_of(alloc, Stage::Rules, &again.text)?;
     let refusals = refusals_of(alloc, &again.text)?;
     Ok(Ported {
+        conditions,
+        calls,
         names,
+        arguments,
         arrays,
         lists,
+        sizes,
         texts,
         again,
         rules,

@@ -5,11 +5,15 @@ ghost use Rattle.lab_port_words.specs.Tables.{classes_of};
 ghost use Rattle.lab_port_rules.specs.Marks.{marks_of};
 ghost use Rattle.lab_port.specs.Portings.{stage_marks, stage_names};
 
+use lab_port_arguments::argument_marks;
 use lab_port_arrays::array_marks;
+use lab_port_calls::{Called, call_marks};
+use lab_port_conditions::condition_marks;
 use lab_port_lists::{Listed, list_marks};
 use lab_port_names::{Named, name_marks};
 use lab_port_prints::print_marks;
 use lab_port_rules::{Mark, Meaning, marks_of};
+use lab_port_sizes::{Counted, size_marks};
 use lab_port_tokens::Piece;
 use lab_port_words::classes_of;
 use om_seq::{AllocResult, Seq};
@@ -18,12 +22,20 @@ use std::alloc::Global;
 /// A stage of the port. Each works on the text that the one before it made.
 #[derive(Clone, Copy)]
 pub enum Stage {
-    /// Macros, constants of enumerations and names of types are written out.
+    /// Conditions of `cpp` go, with the lines that they leave out.
+    Conditions,
+    /// Calls of macros with parameters are written out.
+    Calls,
+    /// Other macros, constants of enumerations and names of types are written out.
     Names,
+    /// What `main` is given becomes that of a program without arguments.
+    Arguments,
     /// Lengths of arrays become numbers, and two dimensions one.
     Arrays,
     /// Lists of values become stores.
     Lists,
+    /// Questions for the number of elements of an array become numbers.
+    Sizes,
     /// Statements that print a text which they choose become one for each text.
     Texts,
     /// All other rules apply.
@@ -54,13 +66,23 @@ fn found_in(alloc: Global, stage: Stage, pieces: &[Piece]) -> AllocResult<Marked
     ensures marks { IfOk result (λ found. found.marks.items ≡ stage_marks stage pieces.now) }
 {
     match stage {
+        Stage::Conditions => unnamed(alloc, condition_marks(alloc, pieces)?),
+        Stage::Calls => {
+            let Called { names, marks } = call_marks(alloc, pieces)?;
+            Ok(Marked { names, marks })
+        }
         Stage::Names => {
             let Named { names, marks } = name_marks(alloc, pieces)?;
             Ok(Marked { names, marks })
         }
+        Stage::Arguments => unnamed(alloc, argument_marks(alloc, pieces)?),
         Stage::Arrays => unnamed(alloc, array_marks(alloc, pieces)?),
         Stage::Lists => {
             let Listed { names, marks } = list_marks(alloc, pieces)?;
+            Ok(Marked { names, marks })
+        }
+        Stage::Sizes => {
+            let Counted { names, marks } = size_marks(alloc, pieces)?;
             Ok(Marked { names, marks })
         }
         Stage::Texts => unnamed(alloc, print_marks(alloc, pieces)?),

@@ -1,13 +1,16 @@
 //! What rules write.
 
 ghost use Rattle.std.specs.Prelude.{◌≡◌, ◌++◌, ◌∷◌, [], decimal, map, flat_map, IfOk, OnOk, take};
-ghost use Rattle.lab_port.specs.Texts.{is_text, text_among, fixed_text, printed_text, plain_text, filled_text, new_text, flat_byte, flat_text};
+ghost use Rattle.lab_port.specs.Texts.{is_text, text_among, fixed_text, printed_text, plain_text, filled_text, used_text, unsigned_text, new_text, flat_byte, flat_text};
 
+use lab_port_arguments::main_text;
 use lab_port_arrays::{index_text, sized_text};
+use lab_port_calls::call_text;
 use lab_port_lists::{array_text, declarator};
 use lab_port_names::meaning_of;
 use lab_port_prints::statement_text;
 use lab_port_rules::{Meaning, Rule};
+use lab_port_sizes::length_text;
 use lab_port_tokens::{Piece, PieceKind};
 use lab_port_words::{push_format, push_line_text, push_number, push_without_suffix};
 use om_seq::AllocResult;
@@ -62,14 +65,42 @@ fn new_text(
     ensures { IfOk result (λ out. out.items ≡ new_text names.now rule text.now taken.now) }
 {
     match rule {
-        Rule::Use => Vec::from_slice(alloc, meaning_of(text, names)),
+        Rule::Use => used_text(alloc, names, text, taken),
         Rule::List => array_text(alloc, text, taken),
         Rule::FileList => declarator(alloc, text, taken),
         Rule::Fill => filled_text(alloc, names),
         Rule::Text => statement_text(alloc, taken),
+        Rule::UnsignedSuffix => unsigned_text(alloc, names, text, taken),
         Rule::Length(number) | Rule::FlatArray(number) => sized_text(alloc, text, number),
         Rule::FlatIndex(columns) => index_text(alloc, text, columns, taken),
         _ => plain_text(alloc, rule, text, taken),
+    }
+}
+
+// What stands for a name, or for one with a list of arguments.
+fn used_text(alloc: Global, names: &[Meaning], text: &[u8], taken: &[Piece]) -> AllocResult<Vec<u8>>
+    ensures { IfOk result (λ out. out.items ≡ used_text names.now text.now taken.now) }
+{
+    if taken.is_empty() {
+        Vec::from_slice(alloc, meaning_of(text, names))
+    } else {
+        call_text(alloc, names, text, taken)
+    }
+}
+
+// A number without its suffix, or the number of elements that a `sizeof` asks for.
+fn unsigned_text(
+    alloc: Global,
+    names: &[Meaning],
+    text: &[u8],
+    taken: &[Piece],
+) -> AllocResult<Vec<u8>>
+    ensures { IfOk result (λ out. out.items ≡ unsigned_text names.now text.now taken.now) }
+{
+    if taken.is_empty() {
+        plain_text(alloc, Rule::UnsignedSuffix, text, taken)
+    } else {
+        Vec::from_slice(alloc, length_text(names, taken))
     }
 }
 
@@ -109,6 +140,7 @@ fn push_plain(out: &mut Vec<u8>, rule: Rule, text: &[u8], taken: &[Piece]) -> Al
         Rule::Character(number) => push_character(out, number),
         Rule::Format => push_format(out, text),
         Rule::Puts => push_printed(out, text_among(taken)),
+        Rule::Main => out.extend_from_slice(main_text(text)),
         _ => out.extend_from_slice(fixed_text(rule)),
     }
 }
@@ -170,7 +202,6 @@ fn fixed_text(rule: Rule) -> &'static [u8]
         Rule::InParallel => b"(omp_get_num_threads() > 1)",
         Rule::PrintError => b"printf(",
         Rule::PrintOut => b"printf(",
-        Rule::Main => b"main(void)",
         Rule::Dynamic => b"dynamic",
         Rule::Static => b"static",
         Rule::Plus => b"+",

@@ -38,10 +38,14 @@ lacking_place text refusal =
 -- the places of a source where a rule applies, stage by stage, and then those without a form
 abbrev pub places_of : List ℕ → Ported → List Found
 places_of source ported =
-    changed_places source ported.names.changes.items
-    ++ changed_places ported.names.text.items ported.arrays.changes.items
+    changed_places source ported.conditions.changes.items
+    ++ changed_places ported.conditions.text.items ported.calls.changes.items
+    ++ changed_places ported.calls.text.items ported.names.changes.items
+    ++ changed_places ported.names.text.items ported.arguments.changes.items
+    ++ changed_places ported.arguments.text.items ported.arrays.changes.items
     ++ changed_places ported.arrays.text.items ported.lists.changes.items
-    ++ changed_places ported.lists.text.items ported.texts.changes.items
+    ++ changed_places ported.lists.text.items ported.sizes.changes.items
+    ++ changed_places ported.sizes.text.items ported.texts.changes.items
     ++ changed_places ported.texts.text.items ported.again.changes.items
     ++ changed_places ported.again.text.items ported.rules.changes.items
     ++ map (lacking_place ported.again.text.items) ported.refusals.items

@@ -22,11 +22,29 @@ pub(crate) fn places_of(alloc: Global, source: &[u8], ported: &Ported) -> AllocR
     ensures { IfOk result (λ places. places.items ≡ places_of source.now ported.now) }
 {
     let mut places = Vec::new(alloc);
-    push_changes(alloc, &mut places, source, &ported.names.changes)?;
+    push_changes(alloc, &mut places, source, &ported.conditions.changes)?;
+    push_changes(
+        alloc,
+        &mut places,
+        &ported.conditions.text,
+        &ported.calls.changes,
+    )?;
+    push_changes(
+        alloc,
+        &mut places,
+        &ported.calls.text,
+        &ported.names.changes,
+    )?;
     push_changes(
         alloc,
         &mut places,
         &ported.names.text,
+        &ported.arguments.changes,
+    )?;
+    push_changes(
+        alloc,
+        &mut places,
+        &ported.arguments.text,
         &ported.arrays.changes,
     )?;
     push_changes(
@@ -39,6 +57,12 @@ pub(crate) fn places_of(alloc: Global, source: &[u8], ported: &Ported) -> AllocR
         alloc,
         &mut places,
         &ported.lists.text,
+        &ported.sizes.changes,
+    )?;
+    push_changes(
+        alloc,
+        &mut places,
+        &ported.sizes.text,
         &ported.texts.changes,
     )?;
     push_changes(

@@ -6,6 +6,7 @@ use Rattle.std.specs.Option.{option_or}
 use Rattle.om_code.specs.declared.frame.Cell.{Cell}
 use Rattle.om_code.specs.declared.frame.Cell.TheVariants as cell
 use Rattle.om_code.specs.declared.frame.Fault.{Fault}
+use Rattle.om_code.specs.declared.raw.Raw.{Raw}
 use Rattle.om_foot.specs.declared.object.Obj.TheVariants as obj
 use Rattle.om_state.specs.declared.step.Entry.{Entry}
 use Rattle.om_state.specs.declared.step.Label.{Label}
@@ -30,6 +31,7 @@ use Rattle.om_undo_history.specs.Pasts.{past_in, history_in, IsHeld}
 use Rattle.om_undo_history.specs.Runs.{fault_of, label_of, reply_for, reply_to_step, state_after_step, state_of_entries}
 use Rattle.om_undo.specs.Machines.{IsPlan, PlansAt}
 use Rattle.lab_graph.specs.declared.traced.Traced.{Traced}
+use Rattle.lab_replay.specs.Manners.{manner_at}
 use Rattle.lab_replay.specs.Said.{AreSaidFrom, IsFaultOf, IsSaidOf, TellsNumber, fault_in, first_number, number_by}
 use Rattle.lab_replay.specs.Said.{number_of, number_of_cell}
 use Rattle.lab_replay.proofs.Replays.{Then, replays_to, same_state, then_by}
@@ -93,10 +95,11 @@ number_planned r s l (plan.Updates change) is =
 number_planned r s l (plan.Blocked b) is = sym (ap (λ (o : Outcome). first_number (updates_of o)) is)
 number_planned r s l plan.Ended is = sym (ap (λ (o : Outcome). first_number (updates_of o)) is)
 
-pub said_of : (r : Rules) (h : kept.History) (l : Label) (p : Plan) (number : Option ℤ) (fault : Option Fault)
-    (t : Traced) → IsPlan r h l p → number ≡ number_by p → IsFaultOf h l p fault → t.is_fault ≡ is_some fault
-    → TellsNumber number fault t.value → IsSaidOf (step_at r (past_in h).state l) t
-said_of r h l p number fault t planned is faulted told value =
+pub said_of : (program : Raw) (r : Rules) (h : kept.History) (l : Label) (p : Plan) (number : Option ℤ)
+    (fault : Option Fault) (t : Traced) → IsPlan r h l p → number ≡ number_by p → IsFaultOf h l p fault
+    → t.is_fault ≡ is_some fault → TellsNumber number fault t.value → t.manner ≡ manner_at program (past_in h).state l
+    → IsSaidOf program r (past_in h).state l t
+said_of program r h l p number fault t planned is faulted told value manner =
     let d : Step = step_at r (past_in h).state l in
     let same : number ≡ first_number (updates_of d.outcome) =
     is ∙ number_planned r (past_in h).state l p planned.planned in
@@ -105,6 +108,7 @@ said_of r h l p number fault t planned is faulted told value =
       is_fault = told ∙ ap is_some met;
       value = subst (λ f. TellsNumber (first_number (updates_of d.outcome)) f t.value) met
           (subst (λ n. TellsNumber n fault t.value) same value);
+      manner = manner;
     }
 
 fault_for : (serial line : ℕ) (o : Outcome) → fault_in (reply_for serial line o) ≡ fault_of (updates_of o)
@@ -127,17 +131,17 @@ fault_told r h l reply held is =
 -- ---- entries in turn
 
 -- what is said of entries, and of one more
-pub said_more : (r : Rules) (from s : State) (es : List Entry) (ts : List Traced) (e : Entry) (t : Traced)
-    → replay_from r from (map label_of es) ≡ Some s → AreSaidFrom r from es ts
-    → IsSaidOf (step_at r s (label_of e)) t → AreSaidFrom r from (es ++ e ∷ []) (ts ++ t ∷ [])
-said_more r from s [] [] e t h said one = (subst (λ x. IsSaidOf (step_at r x (label_of e)) t) (sym (same_state from s h)) one, tt)
-said_more r from s [] (y ∷ ys) e t h said one = absurd said
-said_more r from s (x ∷ xs) [] e t h said one = absurd said
-said_more r from s (x ∷ xs) (y ∷ ys) e t h said one =
+pub said_more : (program : Raw) (r : Rules) (from s : State) (es : List Entry) (ts : List Traced) (e : Entry) (t : Traced)
+    → replay_from r from (map label_of es) ≡ Some s → AreSaidFrom program r from es ts
+    → IsSaidOf program r s (label_of e) t → AreSaidFrom program r from (es ++ e ∷ []) (ts ++ t ∷ [])
+said_more program r from s [] [] e t h said one = (subst (λ x. IsSaidOf program r x (label_of e) t) (sym (same_state from s h)) one, tt)
+said_more program r from s [] (y ∷ ys) e t h said one = absurd said
+said_more program r from s (x ∷ xs) [] e t h said one = absurd said
+said_more program r from s (x ∷ xs) (y ∷ ys) e t h said one =
     let f : State → Option State = λ q. replay_from r q (map label_of xs) in
     let z : Then r (next_state r from (label_of x)) f s = then_by r (next_state r from (label_of x)) f s h in
     let next : state_after_step r from (label_of x) ≡ z.mid = ap (λ o. unwrap_or o from) z.first in (
       said.0,
-      subst (λ q. AreSaidFrom r q (xs ++ e ∷ []) (ys ++ t ∷ [])) (sym next)
-          (said_more r z.mid s xs ys e t z.rest (subst (λ q. AreSaidFrom r q xs ys) next said.1) one),
+      subst (λ q. AreSaidFrom program r q (xs ++ e ∷ []) (ys ++ t ∷ [])) (sym next)
+          (said_more program r z.mid s xs ys e t z.rest (subst (λ q. AreSaidFrom program r q xs ys) next said.1) one),
     )

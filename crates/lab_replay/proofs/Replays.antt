@@ -5,6 +5,7 @@ use Rattle.std.specs.Prelude.{cond, map, nat_eq, option_map, unwrap_or, Bool, tr
 use Rattle.std.proofs.lemmas.Bool.Decides.{Decides-eqb}
 use Rattle.std.proofs.lemmas.List.{map-append, take_more}
 use Rattle.std.proofs.Math.Seq.{drop-cons}
+use Rattle.om_code.specs.declared.raw.Raw.{Raw}
 use Rattle.om_foot.specs.declared.footprint.Access.{Access}
 use Rattle.om_foot.specs.declared.object.Obj.TheVariants as obj
 use Rattle.om_state.specs.declared.step.Blocked.{Blocked}
@@ -158,17 +159,18 @@ replays_to r from (k ∷ ks) now h =
     ap (λ o. and_then o (λ t. replay_from r t (map label_of (entries_of ks)))) h.1 ∙ replays_to r h.0 ks now h.3
 
 -- the state of a history that was made again is the replay of the entries
-pub state_is : (r : Rules) (h : kept.History) (done : List Entry) (steps : List Traced) → IsRemade r h done steps
+pub state_is : (program : Raw) (r : Rules) (h : kept.History) (done : List Entry) (steps : List Traced)
+    → IsRemade program r h done steps
     → replay r (map label_of done) ≡ Some (past_in h).state
-state_is r h done steps is =
+state_is program r h done steps is =
     ap (λ ls. replay r ls) (sym is.labels) ∙ replays_to r r.start (past_in h).records (past_in h).state
     is.held.past.replays
 
-pub can_be_made : (r : Rules) (h : kept.History) (done : List Entry) (steps : List Traced) (e : Entry)
-    (rest : List Entry) (last : State) → IsRemade r h done steps
+pub can_be_made : (program : Raw) (r : Rules) (h : kept.History) (done : List Entry) (steps : List Traced) (e : Entry)
+    (rest : List Entry) (last : State) → IsRemade program r h done steps
     → replay r (map label_of (done ++ e ∷ rest)) ≡ Some last → CanBeMade r h (label_of e)
-can_be_made r h done steps e rest last is k =
-    next_made r r.start (past_in h).state last done e rest (state_is r h done steps is) k
+can_be_made program r h done steps e rest last is k =
+    next_made r r.start (past_in h).state last done e rest (state_is program r h done steps is) k
 
 -- ---- by an index
 
@@ -220,11 +222,11 @@ stands_there r from s low high (x ∷ xs) e rest h rises =
 -- what a machine keeps of an entry's footprint is what its step touches where those before it were made again
 pub touched_is : (m : MachineView) (h : kept.History) (done : List Entry) (steps : List Traced) (e : Entry)
     (rest : List Entry) → m.history.entries ≡ done ++ e ∷ rest → Rise 0 m.history.entries m.history.made
-    → IsRemade (rules_for m) h done steps
+    → IsRemade m.program (rules_for m) h done steps
     → footprint_in m e.serial ≡ Some (footprint_for (rules_for m) h (label_of e))
 touched_is m h done steps e rest split rises is =
     let r : Rules = rules_for m in
     ap (λ es. option_map (footprint_of r) (standing_from r r.start e.serial es)) split
     ∙ ap (option_map (footprint_of r))
-    (stands_there r r.start (past_in h).state 0 m.history.made done e rest (state_is r h done steps is)
+    (stands_there r r.start (past_in h).state 0 m.history.made done e rest (state_is m.program r h done steps is)
     (subst (λ es. Rise 0 es m.history.made) split rises))

@@ -1,2 +1,3 @@
+pub mod Manners
 pub mod Said
 pub mod Traces

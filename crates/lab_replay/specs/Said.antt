@@ -1,4 +1,5 @@
--- What is said of a step: the number that it put into a variable, and whether its worker came to a fault.
+-- What is said of a step: the number that it put into a variable, whether its worker came to a fault, and how its
+-- instruction accesses variables.
 use Rattle.std.specs.Prelude.{◌≡◌, ◌++◌, ◌∷◌, [], ℤ, Option, None, Some, List, ℕ, Vec, codes, is_some}
 use Rattle.std.specs.declared.alloc.Global.{Global}
 use Rattle.std.specs.Fmt.{signed_decimal}
@@ -6,6 +7,7 @@ use Rattle.std.specs.Option.{option_or}
 use Rattle.om_code.specs.declared.frame.Cell.{Cell}
 use Rattle.om_code.specs.declared.frame.Cell.TheVariants as cell
 use Rattle.om_code.specs.declared.frame.Fault.{Fault}
+use Rattle.om_code.specs.declared.raw.Raw.{Raw}
 use Rattle.om_state.specs.declared.step.Entry.{Entry}
 use Rattle.om_state.specs.declared.step.Label.{Label}
 use Rattle.om_state.specs.declared.step.Step.{Step}
@@ -25,6 +27,7 @@ use Rattle.om_task.specs.declared.planned.Plan.{Plan}
 use Rattle.om_task.specs.declared.planned.Plan.TheVariants.{Updates}
 use Rattle.om_undo.specs.Machines.{IsPlan, MachineView, rules_for}
 use Rattle.lab_graph.specs.declared.traced.Traced.{Traced}
+use Rattle.lab_replay.specs.Manners.{manner_at}
 
 -- ---- the number that a step puts
 
@@ -69,27 +72,30 @@ TellsNumber (Some n) None text = HasNumber n text
 TellsNumber (Some n) (Some fault) text = Unit {0}
 TellsNumber None fault text = Unit {0}
 
--- it is said of a step whether its worker came to a fault; if it did not, the value is the number that the step put
-pub record IsSaidOf (d : Step) (t : Traced) : Type 0 where
-  pub is_fault : t.is_fault ≡ is_some (fault_of (updates_of d.outcome))
-  pub value : TellsNumber (first_number (updates_of d.outcome)) (fault_of (updates_of d.outcome)) t.value
+-- it is said of a label's step at a state whether its worker came to a fault, and how its instruction accesses
+-- variables; if there was no fault, the value is the number that the step put
+pub record IsSaidOf (program : Raw) (r : Rules) (s : State) (l : Label) (t : Traced) : Type 0 where
+  pub is_fault : t.is_fault ≡ is_some (fault_of (updates_of (step_at r s l).outcome))
+  pub value : TellsNumber (first_number (updates_of (step_at r s l).outcome))
+      (fault_of (updates_of (step_at r s l).outcome)) t.value
+  pub manner : t.manner ≡ manner_at program s l
 
 -- this is said of the steps of entries that are made in turn from a state
-abbrev pub AreSaidFrom : Rules → State → List Entry → List Traced → Type 0
-AreSaidFrom r s [] [] = Unit {0}
-AreSaidFrom r s (e ∷ es) (t ∷ ts) = IsSaidOf (step_at r s (label_of e)) t
-    × AreSaidFrom r (state_after_step r s (label_of e)) es ts
-AreSaidFrom r s _ _ = ⊥
+abbrev pub AreSaidFrom : Raw → Rules → State → List Entry → List Traced → Type 0
+AreSaidFrom program r s [] [] = Unit {0}
+AreSaidFrom program r s (e ∷ es) (t ∷ ts) = IsSaidOf program r s (label_of e) t
+    × AreSaidFrom program r (state_after_step r s (label_of e)) es ts
+AreSaidFrom program r s _ _ = ⊥
 
 -- this is said of the steps of entries, each at its place in a replay from the start of a machine's program
 abbrev pub AreSaid : MachineView → List Entry → List Traced → Type 0
-AreSaid m entries steps = AreSaidFrom (rules_for m) (rules_for m).start entries steps
+AreSaid m entries steps = AreSaidFrom m.program (rules_for m) (rules_for m).start entries steps
 
 -- ---- one step that is made again
 
 -- this is said of the step of an entry of a machine where a history stands
 abbrev pub IsSaid : MachineView → History → Entry → Traced → Type 0
-IsSaid m h e t = IsSaidOf (step_at (rules_for m) (past_in h).state (label_of e)) t
+IsSaid m h e t = IsSaidOf m.program (rules_for m) (past_in h).state (label_of e) t
 
 -- the fault that a reply tells
 abbrev pub fault_in : StepReply → Option Fault

@@ -1,5 +1,6 @@
 -- Histories that are made again from their entries, with what each step touched.
 use Rattle.std.specs.Prelude.{◌≡◌, ◌+◌, Some, List, [], ◌∷◌, ◌++◌, map, length}
+use Rattle.om_code.specs.declared.raw.Raw.{Raw}
 use Rattle.om_foot.specs.declared.footprint.Access.{Access}
 use Rattle.om_state.specs.declared.step.Label.{Label}
 use Rattle.om_state.specs.declared.step.Entry.{Entry}
@@ -57,12 +58,12 @@ pub record IsLonger (r : Rules) (old new : History) (l : Label) : Type 0 where
   pub made : (past_in new).made ≡ (past_in old).made + 1
 
 -- entries that were made again, and what was noted of them
-pub record IsRemade (r : Rules) (h : History) (done : List Entry) (steps : List Traced) : Type 0 where
+pub record IsRemade (program : Raw) (r : Rules) (h : History) (done : List Entry) (steps : List Traced) : Type 0 where
   pub held : IsHeld r h
   pub labels : map label_of (history_in h).entries ≡ map label_of done
   pub made : (past_in h).made ≡ length done
   pub noted : map transition_of steps ≡ transitions r done
-  pub said : AreSaidFrom r r.start done steps
+  pub said : AreSaidFrom program r r.start done steps
 
 -- the step of an entry was made again where a history of a machine's program stands
 abbrev pub Remakes : MachineView → (old new : History) → Entry → Type 0

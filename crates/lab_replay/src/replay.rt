@@ -9,6 +9,7 @@ ghost use Rattle.om_undo.specs.Machines.{IsPlan, footprint_in, rules_for};
 ghost use Rattle.lab_replay.specs.Said.{AreSaid, IsFaultOf, IsSaid};
 ghost use Rattle.lab_replay.specs.Traces.{CanBeMade, CanReplay, HasStep, IsForStep, IsTraced, Remakes, footprint_for, replayed, traced, transitions_of};
 
+use crate::manner::manner_at;
 use crate::value::fault_in;
 use crate::words::{Spoken, Words};
 use lab_graph::Traced;
@@ -25,8 +26,8 @@ use std::alloc::Global;
 
 /// The steps of a machine's history, each with what it touched and did at its place in the replay. What it
 /// touched is what the machine keeps. For the words of what they did they are made again, each once. It is
-/// said of each whether it met a fault, and else the number that it put into a variable, if it put one. The
-/// only error is out of memory.
+/// said of each how its instruction accesses variables, whether it met a fault, and else the number that it
+/// put into a variable, if it put one. The only error is out of memory.
 pub fn trace<'m>(alloc: Global, machine: &'m Machine) -> AllocResult<Vec<Traced<'m>>>
     ensures touched { IfOk result (λ steps. traced steps.items ≡ transitions_of machine.now) }
     ensures said { IfOk result
@@ -86,6 +87,7 @@ fn traced<'m>(
     let label = label_of(entry);
     let plan = planned(alloc, machine, history, &label)?;
     let words = Words::of(alloc, machine.program(), history.store(), &label, &plan)?;
+    let manner = manner_at(machine.program(), history.store(), &label);
     match remade(alloc, history, &label, plan) {
         Ok(fault) => {
             let Spoken {
@@ -101,6 +103,7 @@ fn traced<'m>(
                 variable,
                 value,
                 is_fault,
+                manner,
             })
         }
         Err(error) => Err(error),

@@ -1,4 +1,3 @@
+pub mod Seeds
 pub mod Schedules
 pub mod Reports
-pub mod Entries
-pub mod Seeds

@@ -1,11 +1,12 @@
 -- The text of a report.
-use Rattle.std.specs.Prelude.{ℕ, List, [], ◌++◌, ◌==◌, Option, None, Some, if◌then◌else◌, codes, decimal, length}
+use Rattle.std.specs.Prelude.{ℕ, ◌+◌, ◌-◌, List, [], ◌++◌, ◌==◌, Option, None, Some, if◌then◌else◌, codes, decimal, length}
 use Rattle.om_foot.specs.Names.{name_text}
 use Rattle.lab_schedules.specs.declared.block.Block.{Block}
 use Rattle.lab_schedules.specs.declared.block.Block.TheVariants as block
 use Rattle.lab_schedules.specs.declared.hunted.Found.{Found}
 use Rattle.lab_schedules.specs.declared.hunted.Hunted.{Hunted}
 use Rattle.lab_schedules.specs.declared.hunted.Hunted.TheVariants as hunted
+use Rattle.lab_schedules.specs.declared.hunted.Seeds.{Seeds}
 use Rattle.lab_judge.specs.declared.judge.Standard.{Standard}
 use Rattle.lab_judge.specs.declared.judge.Standard.TheVariants as standard
 use Rattle.lab_judge.specs.declared.judge.Wanted.{Wanted}
@@ -61,14 +62,25 @@ abbrev pub found_text : Found → List ℕ
 found_text found = words_text found ++ codes "\n" ++ found.script.items
 
 abbrev pub limits_text : List ℕ
-limits_text = codes "These are not all schedules, " ++ codes "and this is no race detector.\n"
+limits_text = codes "These are not all schedules.\n"
 
 -- how many seeds there were
 abbrev pub several_seeds : ℕ → List ℕ
-several_seeds seeds = codes "nothing bad in the schedules of " ++ decimal seeds ++ codes " seeds\n"
+several_seeds seeds = codes "nothing bad in the schedules of " ++ decimal seeds ++ codes " seeds"
 
-abbrev pub seed_words : ℕ → List ℕ
-seed_words seeds = if seeds == 1 then codes "nothing bad in the schedule of 1 seed\n" else several_seeds seeds
+abbrev pub count_words : ℕ → List ℕ
+count_words seeds = if seeds == 1 then codes "nothing bad in the schedule of 1 seed" else several_seeds seeds
+
+abbrev pub first_seed : ℕ → List ℕ
+first_seed seed = codes ", from seed " ++ decimal seed ++ codes " on"
+
+-- which seed is the first, where it is not seed 1
+abbrev pub from_words : ℕ → List ℕ
+from_words after = if after == 0 then [] else first_seed (after + 1)
+
+-- how many seeds there were, and which was the first
+abbrev pub seed_words : Seeds → List ℕ
+seed_words seeds = count_words (seeds.last - seeds.after) ++ from_words seeds.after ++ codes "\n"
 
 abbrev pub of_seed : ℕ → List ℕ
 of_seed seed = codes "that of seed " ++ decimal seed
@@ -89,7 +101,7 @@ compared_text (Some standard.Run) = []
 compared_text (Some (standard.Seed seed)) = compared_with seed
 compared_text None = not_compared
 
-abbrev pub nothing_text : ℕ → Option Standard → ℕ → List ℕ
+abbrev pub nothing_text : Seeds → Option Standard → ℕ → List ℕ
 nothing_text seeds compared unconfirmed =
     seed_words seeds ++ compared_text compared ++ unconfirmed_text unconfirmed ++ limits_text
 

@@ -1,9 +1,21 @@
--- A schedule as commands.
-use Rattle.std.specs.Prelude.{ℕ, zero, suc, List, [], ◌++◌, codes, decimal}
+-- Which steps a schedule is, and its commands.
+use Rattle.std.specs.Prelude.{ℕ, zero, suc, List, [], ◌∷◌, ◌++◌, codes, decimal, replicate}
 use Rattle.om_foot.specs.Names.{name_text}
+use Rattle.om_state.specs.declared.step.Choice.TheVariants as choice
+use Rattle.om_state.specs.declared.step.Label.{Label}
 use Rattle.lab_schedules.specs.declared.block.Block.{Block}
 use Rattle.lab_schedules.specs.declared.block.Block.TheVariants.{Steps, Start}
 use Rattle.om_shell_commands.specs.Lists.{joined}
+
+-- the steps that a block is
+abbrev pub labels_in : Block → List Label
+labels_in (Steps worker count) = replicate count (record { worker = worker; choice = choice.Next })
+labels_in (Start worker task) = record { worker = worker; choice = choice.Start task } ∷ []
+
+-- the steps that a schedule is
+abbrev pub labels_of : List Block → List Label
+labels_of [] = []
+labels_of (block ∷ blocks) = labels_in block ++ labels_of blocks
 
 -- how many steps a block is
 abbrev pub steps_of : Block → ℕ

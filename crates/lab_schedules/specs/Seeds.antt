@@ -1,11 +1,6 @@
--- Which seeds schedules are of.
-use Rattle.std.specs.Prelude.{◌<◌, ◌≤◌, ℕ}
-use Rattle.lab_schedules.specs.declared.seeds.Schedule.{Schedule}
+-- Which seeds a hunt has.
+use Rattle.std.specs.Prelude.{◌+◌, ◌-◌, min, ℕ}
 
--- the schedule is of a later seed than this one
-abbrev pub LiesAfter : ℕ → Schedule → Type 0
-LiesAfter seed schedule = seed < schedule.seed
-
--- the schedule is of one of so many seeds
-abbrev pub LiesWithin : ℕ → Schedule → Type 0
-LiesWithin seeds schedule = schedule.seed ≤ seeds
+-- the last of so many seeds, from a first one on: none is above 2^64 - 1
+abbrev pub last_seed : ℕ → ℕ → ℕ
+last_seed first count = min (first - 1 + count) 18446744073709551615

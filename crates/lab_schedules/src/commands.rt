@@ -11,10 +11,10 @@ use om_shell_commands::push_numbered;
 use std::alloc::Global;
 
 /// How many steps `run` finishes a schedule with, at most.
-pub(crate) const MOST_STEPS: u32 = 100_000;
+pub const MOST_STEPS: u32 = 100_000;
 
-// What lets `run` finish, and shows what was printed.
-const END: &[u8] = b"run 100000\noutput\n";
+/// What lets `run` finish, and shows what was printed.
+pub const FINISH: &[u8] = b"run 100000\noutput\n";
 
 /// The commands that make the steps of a schedule, let `run` finish it, and show what was printed.
 pub fn script(alloc: Global, blocks: &[Block]) -> AllocResult<Vec<u8>>
@@ -22,7 +22,7 @@ pub fn script(alloc: Global, blocks: &[Block]) -> AllocResult<Vec<u8>>
 {
     let mut text = Vec::new(alloc);
     push_blocks(&mut text, blocks)?;
-    text.extend_from_slice(END)?;
+    text.extend_from_slice(FINISH)?;
     Ok(text)
 }
 

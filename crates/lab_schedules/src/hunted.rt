@@ -1,15 +1,44 @@
 //! What a hunt looks for, and what comes of it.
 
+ghost use Rattle.std.specs.Prelude.{◌≡◌, ◌-◌};
+ghost use Rattle.lab_schedules.specs.Seeds.{last_seed};
+
 use crate::block::Block;
 use lab_judge::{End, Standard, Wanted};
+use om_seq::AllocResult;
+use om_undo::Machine;
+use std::alloc::Global;
+
+/// The seeds of a hunt: those after one, up to another. So hunts of other seeds go on other machines.
+#[derive(Clone, Copy)]
+pub struct Seeds {
+    /// The seed before the first one; 0 where that is seed 1.
+    pub after: u64,
+    /// The last seed.
+    pub last: u64,
+}
+
+impl Seeds {
+    /// So many seeds, from this one on. No seed is above 2^64 - 1, and none is 0.
+    pub fn from(first: u64, count: u64) -> Seeds
+        ensures after { result.after ≡ first - 1 }
+        ensures last { result.last ≡ last_seed first count }
+    {
+        let after = first.saturating_sub(1);
+        Seeds {
+            after,
+            last: after.saturating_add(count),
+        }
+    }
+}
 
 /// What a hunt looks for, and how long.
 #[derive(Clone, Copy)]
 pub struct Aims<'a> {
     /// How many workers there are, 1 to 32.
     pub workers: u8,
-    /// How many schedules are tried beside that of `run`.
-    pub seeds: u64,
+    /// The seeds whose schedules are tried, beside that of `run`.
+    pub seeds: Seeds,
     /// How many steps chance makes at most, before `run` makes the others.
     pub steps: u64,
     /// What the program has to print; where there is none, what it prints where `run` makes all steps, if
@@ -19,8 +48,12 @@ pub struct Aims<'a> {
 
 /// Who is told how far a hunt is.
 pub trait Progress {
-    /// The schedule of this seed is tried next. Seeds are counted from 1, up to `seeds`.
-    fn tell(&mut self, seed: u64, seeds: u64);
+    /// The schedule of this seed is tried next. The last seed of the hunt is `last`.
+    fn tell(&mut self, seed: u64, last: u64);
+
+    /// The schedule of a seed was played and is not bad; this machine holds its history. The seed is 0 for `run` alone. The
+    /// only error is out of memory.
+    fn played(&mut self, alloc: Global, seed: u64, machine: &Machine) -> AllocResult<()>;
 
     /// The schedule of a seed is bad, as these words say: the first line of the report, without its end. The
     /// schedule is made short next.
@@ -58,8 +91,8 @@ pub enum Hunted {
     Refused(Vec<u8>),
     /// No bad schedule was found.
     Nothing {
-        /// How many seeds there were. That `run` alone is not bad is proved, and nothing of the seeds.
-        seeds: u64,
+        /// Which seeds there were. That `run` alone is not bad is proved, and nothing of the seeds.
+        seeds: Seeds,
         /// What outputs were compared with; `None` where no output was, as no schedule came to an end.
         compared: Option<Standard>,
         /// How many bad schedules were tried that the debugger did not find bad.

@@ -2,10 +2,11 @@
 
 ghost use Rattle.std.specs.Prelude.{◌≡◌, ◌++◌, IfOk, OnOk, length};
 ghost use Rattle.om_shell_commands.specs.Lists.{joined};
-ghost use Rattle.lab_schedules.specs.Reports.{block_words, blocks_word, compared_text, compared_with, first_text, found_text, length_text, limits_text, not_compared, nothing_text, report_text, seed_text, seed_words, several_seeds, some_unconfirmed, start_words, steps_words, threads_text, unconfirmed_text, words_text};
+ghost use Rattle.std.specs.Prelude.{◌+◌};
+ghost use Rattle.lab_schedules.specs.Reports.{block_words, blocks_word, compared_text, compared_with, count_words, first_seed, first_text, found_text, from_words, length_text, limits_text, not_compared, nothing_text, report_text, seed_text, seed_words, several_seeds, some_unconfirmed, start_words, steps_words, threads_text, unconfirmed_text, words_text};
 
 use crate::block::Block;
-use crate::hunted::{Found, Hunted};
+use crate::hunted::{Found, Hunted, Seeds};
 use lab_judge::{End, Standard, Wanted, push_badness};
 use om_foot::Name;
 use om_seq::AllocResult;
@@ -32,12 +33,7 @@ pub fn push_report(text: &mut Vec<u8>, hunted: &Hunted) -> AllocResult<()>
 }
 
 /// The first line of the report on a bad schedule, without its end. The only error is out of memory.
-pub(crate) fn first_line(
-    alloc: Global,
-    seed: u64,
-    end: &End,
-    wanted: &Wanted,
-) -> AllocResult<Vec<u8>>
+pub fn first_line(alloc: Global, seed: u64, end: &End, wanted: &Wanted) -> AllocResult<Vec<u8>>
     ensures { IfOk result (λ text. text.items ≡ first_text seed end.now wanted.now) }
 {
     let mut text = Vec::new(alloc);
@@ -48,7 +44,7 @@ pub(crate) fn first_line(
 // Appends that nothing was found, and what that does not mean.
 fn push_nothing(
     text: &mut Vec<u8>,
-    seeds: u64,
+    seeds: Seeds,
     compared: Option<Standard>,
     unconfirmed: u64,
 ) -> AllocResult<()>
@@ -62,14 +58,42 @@ fn push_nothing(
     Ok(())
 }
 
-// Appends how many seeds there were.
-fn push_seeds(text: &mut Vec<u8>, seeds: u64) -> AllocResult<()>
+// Appends how many seeds there were, and which is the first where it is not seed 1.
+fn push_seeds(text: &mut Vec<u8>, seeds: Seeds) -> AllocResult<()>
     ensures { OnOk result (text.new.items ≡ text.old.items ++ seed_words seeds) }
 {
-    if seeds == 1 {
-        text.extend_from_slice(b"nothing bad in the schedule of 1 seed\n")
+    push_count(text, seeds.last.saturating_sub(seeds.after))?;
+    push_first_seed(text, seeds.after)?;
+    text.extend_from_slice(b"\n")?;
+    Ok(())
+}
+
+// Appends which seed is the first, where it is not seed 1.
+fn push_first_seed(text: &mut Vec<u8>, after: u64) -> AllocResult<()>
+    ensures { OnOk result (text.new.items ≡ text.old.items ++ from_words after) }
+{
+    if after == 0 {
+        Ok(())
     } else {
-        push_several_seeds(text, seeds)
+        push_from(text, after)
+    }
+}
+
+fn push_from(text: &mut Vec<u8>, after: u64) -> AllocResult<()>
+    ensures { OnOk result (text.new.items ≡ text.old.items ++ first_seed (after + 1)) }
+{
+    push_numbered(text, b", from seed ", u128::from(after) + 1)?;
+    text.extend_from_slice(b" on")?;
+    Ok(())
+}
+
+fn push_count(text: &mut Vec<u8>, count: u64) -> AllocResult<()>
+    ensures { OnOk result (text.new.items ≡ text.old.items ++ count_words count) }
+{
+    if count == 1 {
+        text.extend_from_slice(b"nothing bad in the schedule of 1 seed")
+    } else {
+        push_several_seeds(text, count)
     }
 }
 
@@ -77,7 +101,7 @@ fn push_several_seeds(text: &mut Vec<u8>, seeds: u64) -> AllocResult<()>
     ensures { OnOk result (text.new.items ≡ text.old.items ++ several_seeds seeds) }
 {
     push_numbered(text, b"nothing bad in the schedules of ", seeds)?;
-    text.extend_from_slice(b" seeds\n")?;
+    text.extend_from_slice(b" seeds")?;
     Ok(())
 }
 
@@ -133,8 +157,7 @@ fn push_some_unconfirmed(text: &mut Vec<u8>, unconfirmed: u64) -> AllocResult<()
 fn push_limits(text: &mut Vec<u8>) -> AllocResult<()>
     ensures { OnOk result (text.new.items ≡ text.old.items ++ limits_text) }
 {
-    text.extend_from_slice(b"These are not all schedules, ")?;
-    text.extend_from_slice(b"and this is no race detector.\n")
+    text.extend_from_slice(b"These are not all schedules.\n")
 }
 
 fn push_found(text: &mut Vec<u8>, found: &Found) -> AllocResult<()>
@@ -188,7 +211,7 @@ fn push_length(text: &mut Vec<u8>, blocks: &[Block]) -> AllocResult<()>
 {
     push_numbered(text, b"shortened to ", blocks.len())?;
     push_blocks_word(text, blocks.len())?;
-    push_blocks(text, blocks)?;
+    push_schedule(text, blocks)?;
     text.extend_from_slice(b"then `run`\n")
 }
 
@@ -203,7 +226,9 @@ fn push_blocks_word(text: &mut Vec<u8>, count: usize) -> AllocResult<()>
     }
 }
 
-fn push_blocks(text: &mut Vec<u8>, blocks: &[Block]) -> AllocResult<()>
+/// Appends the blocks of a schedule in words, each with a comma after it: `3 of worker 0, task 0.1 by worker 1, `. The only
+/// error is out of memory.
+pub fn push_schedule(text: &mut Vec<u8>, blocks: &[Block]) -> AllocResult<()>
     ensures { OnOk result (text.new.items ≡ text.old.items ++ joined block_words blocks.now) }
 {
     for block in blocks {

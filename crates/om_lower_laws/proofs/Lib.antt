@@ -1,4 +1,8 @@
 mod Tables
 mod Captured
 mod Shares
+mod Uses
+mod Wholes
+mod SharedSlots
+mod Locks
 mod DeclaredCells

@@ -23,7 +23,7 @@ use Rattle.om_lower_laws.proofs.Captured.{IsCaptured, bodies_captured}
 use Rattle.om_lower_laws.proofs.Tables.{Distinct, Has, number_found, places_apart, table_distinct}
 
 -- what is shared is taken
-taken : (outer : List ℕ) (captures : List Capture) (x : ℕ) → Has outer (map captured_variable captures)
+pub taken : (outer : List ℕ) (captures : List Capture) (x : ℕ) → Has outer (map captured_variable captures)
     → list_any (shares x) captures ≡ true → list_any (nat_eq x) outer ≡ true
 taken outer [] x h e = absurd cc
 taken outer (c ∷ cs) x h e = first (nat_eq c.variable x) refl e (taken outer cs x h.1)

@@ -46,6 +46,10 @@ pub has_back : (table xs ys : List ℕ) → Has table (xs ++ ys) → Has table y
 has_back table [] ys h = h
 has_back table (x ∷ xs) ys h = has_back table xs ys h.1
 
+pub has_both : (table xs ys : List ℕ) → Has table xs → Has table ys → Has table (xs ++ ys)
+has_both table [] ys h k = k
+has_both table (x ∷ xs) ys h k = (h.0, has_both table xs ys h.1 k)
+
 sight_keeps : (is : ℕ → Bool) (found : List ℕ) (x : ℕ) → list_any is found ≡ true
     → list_any is (with_sight nat_eq found x) ≡ true
 sight_keeps is found x e = kept (list_any (nat_eq x) found)
@@ -91,7 +95,7 @@ differs x y e = by (nat_eq y x) refl
     by true same = let no : true ≡ false = sym (eq-eqb x y (sym (eqb-true y x same))) ∙ e in cc
     by false same = refl
 
-neither : (a b : Bool) → (a || b) ≡ false → (a ≡ false) × (b ≡ false)
+pub neither : (a b : Bool) → (a || b) ≡ false → (a ≡ false) × (b ≡ false)
 neither true b e = absurd cc
 neither false b e = (refl, e)
 

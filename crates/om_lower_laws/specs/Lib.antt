@@ -1,2 +1,3 @@
 pub mod ShareLaws
 pub mod CellLaws
+pub mod LockLaws

@@ -1,4 +1,5 @@
-//! Laws of lowered code: a variable that a region shares is the same one outside, and has the cells of its declarator.
+//! Laws of lowered code: a variable that a region shares is the same one outside, a variable has the cells of its
+//! declarator, and each name of critical regions has a lock of its own.
 //!
 //! It has laws alone: no program runs them, and no other crate depends on this one. So a further law of code
 //! stands here, where it costs no crate of a program its proof.
@@ -7,9 +8,12 @@
 //!   how many cells a declared variable of a source has.
 //! - `proofs/Tables` has what tables by first sight have. `proofs/Captured` goes through the tree: what a region
 //!   takes is among the variables of the body round it. `proofs/Shares` draws the first law from the two.
+//! - `proofs/Uses` goes through the tree: what it uses is among its variables. `proofs/Wholes` has what a whole tree
+//!   says of its regions. `proofs/SharedSlots` draws the second law from them.
 //! - `proofs/DeclaredCells` goes through the tree too: the declared variables of a function stand at its places,
 //!   and no two places at one byte.
-//! - A new form of a statement adds a case to `Captured` and to `DeclaredCells`.
+//! - `specs/LockLaws` says that no two locks have one name, and `proofs/Locks` shows it.
+//! - A new form of a statement adds a case to `Captured`, `Uses`, `Wholes` and `DeclaredCells`.
 #![tactic(auto)]
 
 pub mod laws;

@@ -6,6 +6,8 @@ mod Rows
 mod Heads
 mod Statements
 mod Bodies
+mod Begun
+mod Globals
 mod Steps
 mod Naming
 mod ExpressionsSee

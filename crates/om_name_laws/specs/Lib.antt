@@ -1,3 +1,4 @@
 pub mod Sees
 pub mod NameLaws
 pub mod SourceLaws
+pub mod GlobalLaws

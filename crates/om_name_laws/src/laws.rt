@@ -1,5 +1,6 @@
 //! Laws of what names mean in the code of a tree.
 
+ghost use Rattle.om_name_laws.specs.GlobalLaws.{NamesMeanGlobals};
 ghost use Rattle.om_name_laws.specs.NameLaws.{NamesMeanVariables};
 ghost use Rattle.om_name_laws.specs.SourceLaws.{SourcesSeeNames};
 
@@ -22,4 +23,10 @@ pub fn sources_see_names()
 /// of its own loop.
 pub fn names_mean_variables()
     ensures { NamesMeanVariables }
+{}
+
+/// In the body of a function each instruction that names a global stands where the global's name means it: `variable_at`
+/// answers the global there. The load with which a firstprivate copy of a worksharing construct begins is an exception.
+pub fn names_mean_globals()
+    ensures { NamesMeanGlobals }
 {}

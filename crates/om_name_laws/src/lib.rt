@@ -8,7 +8,9 @@
 //! - `proofs/Runs` has which variables the code of an expression names. `proofs/Meanings` has what a name means where
 //!   scopes begin and end, one part behind the other. `proofs/Parts` and `proofs/Statements` go through the tree with
 //!   both. `proofs/Bodies` draws the law from the body of a function.
-//! - A new form of a statement adds a case to `Sees` and to `Statements`.
+//! - `specs/GlobalLaws` says the same of globals. `proofs/Begun` has which bodies the code of a statement begins, and
+//!   `proofs/Globals` that the body of a function stands in no other one.
+//! - A new form of a statement adds a case to `Sees`, to `Statements` and to `Begun`.
 #![tactic(auto)]
 
 pub mod laws;

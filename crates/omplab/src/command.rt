@@ -21,6 +21,16 @@ const SESSION: &str =
     "Without FILE, standard input holds the source up to a line `%%`, and then commands of ompback.
 With FILE, standard input holds commands alone.";
 
+const MACROS: &str =
+    "Without FILE, standard input holds the source up to a line `%%`, and then commands of ompback.
+With FILE, standard input holds commands alone.
+
+With --plain the commands may have macros:
+  # WORDS       a comment
+  step 1 x 20   a command of a worker, so many times
+  until W L     steps of worker W, until it comes from another line to line L
+  until W VAR   steps of worker W, until it changes the global variable";
+
 // The number of workers, which each subcommand takes before or after its name.
 fn threads<'a>(alloc: Global) -> Arg<'a> {
     Arg::new(alloc, "threads")
@@ -95,12 +105,24 @@ fn hunt<'a>(alloc: Global) -> AllocResult<Command<'a>> {
         .about("Tries schedules by chance, and shortens the first bad one to a script for ompback")
         .after_help(
             "A schedule is bad where the program prints something else, meets a fault, or is stuck.
-This is no exploration of all schedules and no race detector.",
+Where none is bad, the races of the first history that has some are told, and the status is 1.
+This is no exploration of all schedules.",
         );
-    let command = command.arg(seeds(alloc));
+    let command = command.arg(first_seed(alloc));
+    let command = with(command, seeds(alloc));
     let command = with(command, steps(alloc));
     let command = with(command, expect(alloc));
     with(command, file(alloc, true))
+}
+
+fn first_seed<'a>(alloc: Global) -> Arg<'a> {
+    number(
+        alloc,
+        "first-seed",
+        "A",
+        "The first seed: with K schedules, the last one is A + K - 1",
+    )
+    .default_value("1")
 }
 
 fn seeds<'a>(alloc: Global) -> Arg<'a> {
@@ -130,9 +152,28 @@ fn expect<'a>(alloc: Global) -> Arg<'a> {
 fn script<'a>(alloc: Global) -> AllocResult<Command<'a>> {
     let command = Command::new(alloc, "script")
         .about("Writes the steps that a session leaves as a script for ompback")
-        .after_help(SESSION);
+        .after_help(MACROS);
     let command = command.arg(cone(alloc));
+    let command = with(command, plain(alloc));
+    let command = with(command, walk(alloc));
     with(command, file(alloc, false))
+}
+
+fn plain<'a>(alloc: Global) -> Arg<'a> {
+    Arg::new(alloc, "plain")
+        .long("plain")
+        .help("Writes the commands themselves, with macros taken away, in place of the steps")
+        .action(ArgAction::SetTrue)
+}
+
+fn walk<'a>(alloc: Global) -> Arg<'a> {
+    number(
+        alloc,
+        "steps",
+        "M",
+        "How many steps an `until` makes at most",
+    )
+    .default_value("10000")
 }
 
 fn cone<'a>(alloc: Global) -> Arg<'a> {
@@ -164,7 +205,19 @@ fn races<'a>(alloc: Global) -> AllocResult<Command<'a>> {
     let command = Command::new(alloc, "races")
         .about("Looks at all schedules for accesses that meet, with both lines of each pair")
         .after_help(SCHEDULES);
-    limited(alloc, command)
+    let session = session(alloc)?;
+    with(limited(alloc, command), session)
+}
+
+// Of one history there is nothing to limit, and its way is the commands.
+fn session<'a>(alloc: Global) -> AllocResult<Arg<'a>> {
+    let session = Arg::new(alloc, "session")
+        .long("session")
+        .help("Reads commands on standard input, and judges the one history that they leave")
+        .action(ArgAction::SetTrue);
+    let session = session.conflicts_with("states")?;
+    let session = session.conflicts_with("steps")?;
+    session.conflicts_with("script")
 }
 
 // A command with the limits of an exploration, and its file.

@@ -3,7 +3,7 @@
 //! - `command` names the subcommands, and `words` reads the command line. `main` joins it with files and
 //!   streams, and `faults` says on standard error why there is no answer.
 //! - `subcommands` does each over any streams: `check`, `hunt`, `script`, `notes`, `draw`; `port` does `port`,
-//!   and `explore` both `explore` and `races`. A `Meter` tells how far a hunt is.
+//!   `explore` both `explore` and `races`, and `judge` `races --session`. A `Meter` tells how far a hunt is.
 //! - A new subcommand is a crate of its own, with its part in `command`, `words` and `subcommands`, and a row
 //!   of `tests/subcommands.py`.
 #![tactic(auto)]
@@ -13,6 +13,7 @@ ghost use Rattle.std.specs.Prelude.{◌<◌, ◌≤◌};
 mod command;
 mod explore;
 mod faults;
+mod judge;
 mod meter;
 mod port;
 mod subcommands;
@@ -20,12 +21,14 @@ mod words;
 
 use crate::explore::explore;
 use crate::faults::{source_in, told};
+use crate::judge::judge;
 use crate::port::port;
-use crate::subcommands::{Host, Search, check, draw, explain, hunt, keep};
+use crate::subcommands::{Host, Search, check, draw, explain, hunt, keep, plain};
 use crate::words::{Asked, Words, ask_for_version, words_in};
 use clap::Error;
 use clap::error::ErrorKind;
 use lab_explore_answer::Question;
+use lab_hunt::Seeds;
 use lab_text::status::{DONE, FAULT, WORDS};
 use om_parser::STACK_SIZE;
 use om_seq::AllocResult;
@@ -47,6 +50,7 @@ fn file_of<'a>(asked: Asked<'a>) -> Option<&'a str> {
         Asked::Port { file, .. } => Some(file),
         Asked::Hunt { file, .. } => Some(file),
         Asked::Explore { file, .. } => Some(file),
+        Asked::Judge { file } => Some(file),
         Asked::Notes { file } => Some(file),
         Asked::Script { file, .. } => file,
         Asked::Draw { file } => file,
@@ -66,13 +70,14 @@ fn done<R: Runtime + Threads + Wait + Sync>(
         Asked::Check { .. } => check(host, &mut writer),
         Asked::Port { strict, list, .. } => port(host, strict, list, &mut writer),
         Asked::Hunt {
-            seeds,
+            first,
+            count,
             steps,
             expected,
             ..
         } => {
             let search = Search {
-                seeds,
+                seeds: Seeds::from(first, count),
                 steps,
                 expected,
             };
@@ -92,7 +97,12 @@ fn done<R: Runtime + Threads + Wait + Sync>(
             };
             explore(host, &question, &mut writer)
         }
+        Asked::Judge { .. } => judge(host, &mut host.rt.reader(), &mut writer),
         Asked::Notes { .. } => explain(host, &mut host.rt.reader(), &mut writer),
+        Asked::Script {
+            plain: Some(most),
+            ..
+        } => plain(host, most, &mut host.rt.reader(), &mut writer),
         Asked::Script { cone, .. } => keep(host, cone, &mut host.rt.reader(), &mut writer),
         Asked::Draw { .. } => draw(host, &mut host.rt.reader(), &mut writer),
     }

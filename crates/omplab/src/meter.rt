@@ -1,6 +1,9 @@
 //! A meter, which shows on standard error how far a hunt is.
 
 use lab_hunt::Progress;
+use om_seq::AllocResult;
+use om_undo::Machine;
+use std::alloc::Global;
 use std::rt::Runtime;
 
 // How many lines a hunt writes at most, in about.
@@ -20,6 +23,8 @@ pub(crate) struct Meter<'a, R> {
     is_watched: bool,
     // Whether the line was begun.
     has_told: bool,
+    // The first seed that was told; 0 where none was.
+    first: u64,
     // How many schedules were tried while one is made short.
     shorter: u64,
 }
@@ -30,6 +35,7 @@ impl<'a, R: Runtime> Meter<'a, R> {
             rt,
             is_watched,
             has_told: false,
+            first: 0,
             shorter: 0,
         }
     }
@@ -43,14 +49,21 @@ impl<'a, R: Runtime> Meter<'a, R> {
 }
 
 impl<R: Runtime> Progress for Meter<'_, R> {
-    fn tell(&mut self, seed: u64, seeds: u64) {
-        if self.is_watched && seed % (seeds / MOST_LINES + 1) == 0 {
+    fn tell(&mut self, seed: u64, last: u64) {
+        if self.first == 0 {
+            self.first = seed;
+        }
+        let tried = seed.saturating_sub(self.first);
+        let others = last.saturating_sub(self.first);
+        if self.is_watched && tried % (others / MOST_LINES + 1) == 0 {
             self.has_told = true;
             let again = AGAIN;
-            let _ = self
-                .rt
-                .eprint(format_args!("{again}seed {seed} of {seeds}"));
+            let _ = self.rt.eprint(format_args!("{again}seed {seed} of {last}"));
         }
+    }
+
+    fn played(&mut self, _alloc: Global, _seed: u64, _machine: &Machine) -> AllocResult<()> {
+        Ok(())
     }
 
     fn found(&mut self, words: &[u8]) {

@@ -8,9 +8,12 @@ use crate::meter::{AGAIN, Meter};
 use lab_check::{Report, report};
 use lab_check_kinds::checked;
 use lab_draw::{Page, page};
-use lab_hunt::{Aims, Hunted, push_report};
+use lab_hunt::{Aims, Hunted, Seeds, push_report};
+use lab_macros::{Expanded, Place, expand};
 use lab_notes::annotate;
+use lab_races_answer::Watch;
 use lab_script::{Script, ScriptFault, cone, script};
+use lab_text::first_line;
 use lab_text::status::{BAD, DONE, FAULT, REFUSED};
 use om_seq::AllocResult;
 use om_shell::{Options, ShellFault, read_all, send, session_bytes};
@@ -32,6 +35,16 @@ pub(crate) struct Host<'a, 'b, H> {
     pub(crate) options: Options<'b>,
     /// Whether standard error is a terminal, so that somebody sees how far it is.
     pub(crate) is_watched: bool,
+}
+
+// What stands behind the first line of a text.
+fn behind_first_line(text: &[u8]) -> &[u8] {
+    for (at, byte) in text.iter().enumerate() {
+        if *byte == b'\n' {
+            return &text[at + 1..];
+        }
+    }
+    &[]
 }
 
 /// The name of the source in a report, where it stands in standard input.
@@ -58,6 +71,15 @@ impl<H> Host<'_, '_, H> {
         }
     }
 
+    /// Tells on standard error which teams of an accepted source are smaller than it asks for.
+    pub(crate) fn note(&self, source: &[u8]) -> AllocResult<()> {
+        let report = self.report(source)?;
+        if report.status == DONE {
+            self.tell(behind_first_line(report.text.as_slice()));
+        }
+        Ok(())
+    }
+
     /// Tells on standard error why a source is refused, and answers the exit status.
     pub(crate) fn refuse(&self, source: &[u8]) -> Result<u8, ShellFault> {
         let report = self.report(source)?;
@@ -78,7 +100,7 @@ pub(crate) fn check<H, W: Write>(host: &Host<'_, '_, H>, writer: &mut W) -> Resu
 /// What a hunt looks for, and how long.
 #[derive(Clone, Copy)]
 pub(crate) struct Search<'a> {
-    pub(crate) seeds: u64,
+    pub(crate) seeds: Seeds,
     pub(crate) steps: u64,
     /// What the program is to print, with `\n` for a line end; where it is `None`, what `run` prints.
     pub(crate) expected: Option<&'a str>,
@@ -134,25 +156,43 @@ pub(crate) fn hunt<H: Runtime + Threads + Wait + Sync, W: Write>(
     };
     let mut meter = Meter::new(host.rt, host.is_watched);
     let source = host.options.source.unwrap_or(&[]);
-    let hunted = lab_hunt::hunt(host.rt, host.alloc, source, &aims, &mut meter);
+    let mut watch = Watch::over(&mut meter);
+    let hunted = lab_hunt::hunt(host.rt, host.alloc, source, &aims, &mut watch);
+    let raced = watch.into_raced();
     meter.end();
     match hunted {
         Ok(Hunted::Refused(_)) => host.refuse(source),
-        Ok(hunted) => report_on(host.alloc, &hunted, writer),
+        Ok(hunted) => report_on(host.alloc, &hunted, raced, writer),
         Err(fault) => Err(within(fault)),
     }
 }
 
-// Writes what came of a hunt.
-fn report_on<W: Write>(alloc: Global, hunted: &Hunted, writer: &mut W) -> Result<u8, ShellFault> {
+// Writes what came of a hunt; where it found no bad schedule, also the races of a history.
+fn report_on<W: Write>(
+    alloc: Global,
+    hunted: &Hunted,
+    raced: Option<Vec<u8>>,
+    writer: &mut W,
+) -> Result<u8, ShellFault> {
     let mut text = Vec::new(alloc);
     push_report(&mut text, hunted)?;
     let status = match hunted {
-        Hunted::Nothing { .. } => DONE,
+        Hunted::Nothing { .. } => push_raced(&mut text, raced)?,
         Hunted::Found(_) => BAD,
         Hunted::Refused(_) => REFUSED,
     };
     written(writer, &text, status)
+}
+
+// Appends the races of a history, if there are some, and answers the exit status.
+fn push_raced(text: &mut Vec<u8>, raced: Option<Vec<u8>>) -> AllocResult<u8> {
+    match raced {
+        Some(raced) => {
+            text.extend_from_slice(&raced)?;
+            Ok(BAD)
+        }
+        None => Ok(DONE),
+    }
 }
 
 /// Passes answers on, with words after them.
@@ -200,6 +240,35 @@ pub(crate) fn keep<H: Runtime + Threads + Wait + Sync, R: Read, W: Write>(
     }
 }
 
+/// Writes the commands that a command file with macros stands for. Which macros stand for nothing goes to standard
+/// error.
+pub(crate) fn plain<H: Threads + Wait + Sync, R: Read, W: Write>(
+    host: &Host<'_, '_, H>,
+    most: u64,
+    reader: &mut R,
+    writer: &mut W,
+) -> Result<u8, ShellFault>
+    requires least { 0 < host.now.options.workers }
+    requires most { host.now.options.workers ≤ 32 }
+{
+    let input = read_all(host.alloc, reader)?;
+    let session = session_bytes(host.options.source, &input);
+    let place = Place {
+        workers: host.options.workers,
+        source: session.source,
+        most,
+        first: first_line(&input, session.commands),
+    };
+    match expand(host.rt, host.alloc, &place, session.commands) {
+        Ok(Expanded::Commands { lines, told }) => {
+            host.tell(&told);
+            written(writer, &lines, DONE)
+        }
+        Ok(Expanded::Refused(_)) => host.refuse(session.source),
+        Err(fault) => Err(within(fault)),
+    }
+}
+
 /// Draws what a session leaves. Which commands were turned down goes to standard error.
 pub(crate) fn draw<H: Threads + Wait + Sync, R: Read, W: Write>(
     host: &Host<'_, '_, H>,
@@ -226,7 +295,7 @@ pub(crate) fn draw<H: Threads + Wait + Sync, R: Read, W: Write>(
 
 // The fault of a session that was run apart: such a session writes into memory, which takes every byte for which there
 // is room.
-fn within(fault: ShellFault) -> ShellFault {
+pub(crate) fn within(fault: ShellFault) -> ShellFault {
     match fault {
         ShellFault::Write => ShellFault::Memory,
         other => other,

@@ -35,8 +35,10 @@ pub enum Asked<'a> {
     /// To try schedules by chance, and shorten the first bad one.
     Hunt {
         file: &'a str,
+        /// The first seed, from 1 on.
+        first: u64,
         /// How many schedules are tried, from 1 on.
-        seeds: u64,
+        count: u64,
         /// How many steps a schedule has at most, from 1 on.
         steps: u64,
         /// What the program is to print; where it is `None`, what `run` prints.
@@ -51,11 +53,17 @@ pub enum Asked<'a> {
         /// The number, from 1, of the end or pair whose commands are asked for.
         script: Option<u64>,
     },
+    /// To judge the history that a session leaves: which of its steps race.
+    Judge {
+        file: &'a str,
+    },
     /// To write the steps that a session leaves as a script, or those of a cone.
     Script {
         file: Option<&'a str>,
         /// The serial of the step whose cone is asked for.
         cone: Option<u64>,
+        /// How many steps an `until` makes at most, where the commands themselves are asked for.
+        plain: Option<u64>,
     },
     /// To pass answers on with words after them.
     Notes {
@@ -132,15 +140,25 @@ fn asked_by<'a>(name: &str, given: &ArgMatches<'a>) -> Option<Asked<'a>> {
         },
         "hunt" => hunt_by(file?, given)?,
         "explore" => explore_by(file?, Subject::Ends, given)?,
-        "races" => explore_by(file?, Subject::Races, given)?,
+        "races" => races_by(file?, given)?,
         "script" => Asked::Script {
             file,
             cone: given.get_one::<u64>("cone"),
+            plain: plain_by(given)?,
         },
         "notes" => Asked::Notes { file: file? },
         "draw" => Asked::Draw { file },
         _ => return None,
     })
+}
+
+// What is asked for of races: those of a session, or of all schedules.
+fn races_by<'a>(file: &'a str, given: &ArgMatches<'a>) -> Option<Asked<'a>> {
+    if given.get_flag("session") {
+        Some(Asked::Judge { file })
+    } else {
+        explore_by(file, Subject::Races, given)
+    }
 }
 
 // What is asked for of all schedules.
@@ -156,11 +174,18 @@ fn explore_by<'a>(file: &'a str, subject: Subject, given: &ArgMatches<'a>) -> Op
     })
 }
 
+// How many steps an `until` makes at most, where the commands themselves are asked for.
+fn plain_by(given: &ArgMatches<'_>) -> Option<Option<u64>> {
+    let most = given.get_one::<u64>("steps")?;
+    Some(given.get_flag("plain").then_some(most))
+}
+
 // What a hunt asks for.
 fn hunt_by<'a>(file: &'a str, given: &ArgMatches<'a>) -> Option<Asked<'a>> {
     Some(Asked::Hunt {
         file,
-        seeds: given.get_one::<u64>("seeds")?,
+        first: given.get_one::<u64>("first-seed")?,
+        count: given.get_one::<u64>("seeds")?,
         steps: given.get_one::<u64>("steps")?,
         expected: given.get_str("expect"),
     })

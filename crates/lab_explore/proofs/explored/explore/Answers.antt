@@ -5,7 +5,7 @@ use Rattle.lab_explore.specs.Searches.{Answers}
 use Rattle.lab_explore.proofs.explored.explore.Goals as goal
 
 pub returns : goal.returns
-returns c =
+returns g c =
     let x : Search = c.in_ok-search.search in
     c.told.ensures c.args.program c.args.workers c.args.limits.now
     (subst (λ (p : Raw). Answers p c.args.workers c.args.limits.now c.run-verdict.result c.run-verdict.new.search)

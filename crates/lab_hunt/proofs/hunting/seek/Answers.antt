@@ -10,7 +10,8 @@ returns g c = elim c.if-is_some.branch [
   | then-is_some w ↦
       let known : is_some (text_in c.args.ground.now.wanted.now.text) ≡ true = search rules in
       rw w.sought-is (IfOk-weaker w.compare-sought.result _ _
-      (λ sought compared. sought_on c.args.ground.now c.args.field.now.source.now _ sought known compared)
+      (λ sought compared. sought_on c.args.ground.now c.args.field.now.source.now _ sought
+      c.in_ok-tries.ensures known compared)
       w.compare-sought.ensures)
   | else-is_some w ↦ rw w.sought-is w.settle-sought.ensures
 ]

@@ -23,7 +23,8 @@ loop-entry-init c = record {
   labels = ap (λ (p : Past). map label_of (entries_of p.records)) c.new-history.ensures.past;
   made = ap (λ (p : Past). p.made) c.new-history.ensures.past;
   noted = ap (λ (ts : List Traced). map transition_of ts) c.new-steps.ensures.items;
-  said = subst (λ (ts : List Traced). AreSaidFrom (rules_for c.args.machine.now) (rules_for c.args.machine.now).start [] ts)
+  said = subst (λ (ts : List Traced). AreSaidFrom c.args.machine.now.program (rules_for c.args.machine.now)
+      (rules_for c.args.machine.now).start [] ts)
       (sym c.new-steps.ensures.items) tt;
 }
 
@@ -33,7 +34,7 @@ traced-requires-clause-made c =
     let es : List Entry = c.args.entries.now in
     let i : ℕ = c.loop-entry.entry-index in
     let less : i < length es = omega arith in
-    can_be_made r c.loop-entry.history (take i es) c.loop-entry.steps.items c.entry-item.result (drop (suc i) es)
+    can_be_made c.args.machine.now.program r c.loop-entry.history (take i es) c.loop-entry.steps.items c.entry-item.result (drop (suc i) es)
     c.requires.replayed.0 c.loop-entry.invariant
     (ap (λ (l : List Entry). replay r (map label_of l)) (sym (split_at es i c.entry-item.result less c.entry-item.is))
     ∙ c.requires.replayed.1)
@@ -56,10 +57,10 @@ loop-entry-preserved c =
     let e : Entry = c.entry-item.result in
     let t : Traced = c.in-Ok.step in
     let less : i < length es = omega arith in
-    let more : IsRemade r c.traced.new.history (take i es ++ e ∷ []) (c.loop-entry.steps.items ++ t ∷ []) =
-    remade_more r c.loop-entry.history c.traced.new.history (take i es) c.loop-entry.steps.items e t
+    let more : IsRemade c.args.machine.now.program r c.traced.new.history (take i es ++ e ∷ []) (c.loop-entry.steps.items ++ t ∷ []) =
+    remade_more c.args.machine.now.program r c.loop-entry.history c.traced.new.history (take i es) c.loop-entry.steps.items e t
     c.loop-entry.invariant c.in-Ok.ensures.noted c.in-Ok.ensures.said c.in-Ok.ensures.longer in
     let pushed : c.push.new.self.items ≡ c.loop-entry.steps.items ++ t ∷ [] = c.in_ok-push-in-Ok.ensures.items in
-    subst (λ ts. IsRemade r c.traced.new.history (take (i + 1) es) ts) (sym pushed)
-    (subst (λ l. IsRemade r c.traced.new.history l (c.loop-entry.steps.items ++ t ∷ []))
+    subst (λ ts. IsRemade c.args.machine.now.program r c.traced.new.history (take (i + 1) es) ts) (sym pushed)
+    (subst (λ l. IsRemade c.args.machine.now.program r c.traced.new.history l (c.loop-entry.steps.items ++ t ∷ []))
     (sym (taken_more es i e less c.entry-item.is)) more)

@@ -5,4 +5,4 @@ use Rattle.lab_replay.proofs.replay.retraced.Given as goal
 
 -- the entries so far were made again
 abbrev pub invariant-loop-entry : goal.invariant-loop-entry
-invariant-loop-entry l = IsRemade (rules_for l.machine) l.history (take l.entry-index l.entries) l.steps.items
+invariant-loop-entry l = IsRemade l.machine.program (rules_for l.machine) l.history (take l.entry-index l.entries) l.steps.items

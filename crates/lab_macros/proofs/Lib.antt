@@ -1,0 +1,3 @@
+mod WalkLaws
+mod SayingLaws
+mod ExpansionLaws

@@ -1,0 +1,2 @@
+pub mod Undone
+pub mod Steps

@@ -1,0 +1,4 @@
+pub mod Lists
+pub mod Functions
+pub mod Written
+pub mod Places

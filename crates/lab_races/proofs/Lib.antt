@@ -1,0 +1,6 @@
+mod Knowing
+mod Members
+mod Noting
+mod Rising
+mod Swept
+mod Tables

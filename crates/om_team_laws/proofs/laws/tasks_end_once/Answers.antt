@@ -1,0 +1,6 @@
+use Rattle.om_team_laws.proofs.Stages.{end_once}
+use Rattle.om_team_laws.proofs.laws.tasks_end_once.Goals as goal
+
+pub returns : goal.returns
+returns c = λ program workers first between l m s t u v name e is one rest again.
+    end_once program workers between l m s t u v name (c.runs_are_orderly.ensures program workers first s e) is one rest again

@@ -1,0 +1,7 @@
+pub mod Contexts
+pub mod Criticals
+pub mod Works
+pub mod Tasks
+pub mod Waits
+pub mod Reductions
+pub mod Laws

@@ -1,0 +1,17 @@
+//! Laws of what OpenMP promises of critical and worksharing regions, reductions, tasks and barriers.
+//!
+//! It has laws alone: no program runs them, and no other crate depends on this one. Each is true of the runs of every
+//! program, valid or not.
+//!
+//! - `specs/Criticals` says who is inside of the critical regions of a lock. `specs/Works` says what of a worksharing
+//!   region is given out and who has it, `specs/Tasks` how tasks go on, and `specs/Contexts` which contexts a worker has.
+//! - `proofs/Cases` has what a step may do to controls, tasks, locks, and what is given out of worksharing regions.
+//!   `proofs/TeamRows`, `ShareRows` and `Walk` show that the row of each choice is one of these cases. A law about
+//!   these objects is shown case by case: `proofs/Exclusion`, `Hands`, `Singles`, `Taken` and `TaskCases` each have one.
+//! - `specs/Waits` says what a member finds that goes on from a barrier, and `proofs/Waiting` reads it off its row.
+//!   `proofs/Asking` reads off the row of GRAB what a member gets that asks for a chunk. `specs/Reductions` and
+//!   `proofs/Combining` are about RED in the same way.
+//! - A new row has a lemma in `TeamRows` or `ShareRows`, and a new instruction a line in `Walk`.
+#![tactic(auto)]
+
+pub mod laws;
