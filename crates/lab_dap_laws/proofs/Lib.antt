@@ -1,0 +1,4 @@
+pub mod Ends
+mod Fronts
+pub mod Within
+mod Responses

@@ -1,0 +1,2 @@
+pub mod Responses
+pub mod Capabilities

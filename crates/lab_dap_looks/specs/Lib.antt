@@ -1,0 +1,6 @@
+pub mod Frames
+pub mod Variables
+pub mod Cells
+pub mod Lines
+pub mod Locks
+pub mod Visible

@@ -1,0 +1,10 @@
+pub mod Stands
+pub mod Steps
+pub mod Forward
+pub mod Runs
+pub mod Undos
+pub mod Backs
+pub mod FarBacks
+pub mod Renewals
+pub mod Targets
+pub mod LineBacks

@@ -1,0 +1,72 @@
+//! The tasks that are ready, which a worker may begin at a scheduling point.
+
+ghost use Rattle.std.specs.Prelude.{◌≡◌, IfOk, map, option_copied, unwrap_or};
+ghost use Rattle.om_shell_debugger.specs.Looks.{directive_line};
+ghost use Rattle.om_state.specs.declared.value.Task.TheVariants.{Absent};
+ghost use Rattle.om_undo.specs.Machines.{state_in};
+ghost use Rattle.om_undo.specs.ReadyNames.{ready_names};
+ghost use Rattle.lab_dap_moves.specs.Targets.{ready_task, tasks_ready};
+
+use om_foot::{Name, Obj};
+use om_seq::AllocResult;
+use om_state::Task;
+use om_undo::Machine;
+use om_undo::laws::{one_ready_list, ready_names_are_ready};
+use std::alloc::Global;
+
+/// A task that is ready to be begun.
+#[derive(Clone, Copy)]
+pub struct ReadyTask {
+    pub name: Name,
+    /// The line of its directive.
+    pub line: u32,
+}
+
+// The line of the directive of a task that is ready, 0 for another one.
+fn directive_line(task: Option<&Task>) -> u32
+    ensures { result ≡ directive_line (unwrap_or (option_copied task.entry) Absent) }
+{
+    match task {
+        Some(Task::Ready(ready)) => ready.get().line,
+        Some(Task::Absent) | Some(Task::Running(_)) | Some(Task::Done) | None => 0,
+    }
+}
+
+// A task that is ready, by its name.
+fn ready_task(alloc: Global, machine: &Machine, name: &Name) -> AllocResult<ReadyTask>
+    ensures { IfOk result (λ task. task ≡ ready_task (state_in machine.now) name.now) }
+{
+    let value = machine.look(alloc, &Obj::Task(*name))?;
+    let line = directive_line(value.task());
+    drop(value);
+    Ok(ReadyTask { name: *name, line })
+}
+
+// The names of the tasks that are ready, ascending.
+fn names_ready(alloc: Global, machine: &Machine) -> AllocResult<Vec<Name>>
+    ensures { IfOk result (λ names. names.items ≡ ready_names machine.now) }
+{
+    one_ready_list();
+    ready_names_are_ready();
+    machine.ready(alloc)
+}
+
+// The tasks of these names.
+fn tasks_named(alloc: Global, machine: &Machine, names: &[Name]) -> AllocResult<Vec<ReadyTask>>
+    ensures { IfOk result
+        (λ tasks. tasks.items ≡ map (ready_task (state_in machine.now)) names.now) }
+{
+    let mut tasks = Vec::new(alloc);
+    for name in names {
+        tasks.push(ready_task(alloc, machine, name)?)?;
+    }
+    Ok(tasks)
+}
+
+/// The tasks that are ready, by their names, ascending. The only error is out of memory.
+pub fn tasks_ready(alloc: Global, machine: &Machine) -> AllocResult<Vec<ReadyTask>>
+    ensures { IfOk result (λ tasks. tasks.items ≡ tasks_ready machine.now) }
+{
+    let names = names_ready(alloc, machine)?;
+    tasks_named(alloc, machine, &names)
+}

@@ -1,0 +1,4 @@
+pub mod Fields
+pub mod Commands
+pub mod Arguments
+pub mod Requests

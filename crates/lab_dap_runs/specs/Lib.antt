@@ -1,0 +1,3 @@
+pub mod Rooms
+pub mod Moves
+pub mod Through

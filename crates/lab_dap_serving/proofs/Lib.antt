@@ -1,0 +1,4 @@
+mod Texts
+mod Talks
+mod Replies
+mod Reading
