@@ -31,16 +31,17 @@ stand_on program stack = record {
   callers = length stack.top.callers;
   line = line_at program stack.top.frame.body stack.top.frame.next;
   is_behind_call = is_behind_call program stack.top.frame;
+  has_ended = false;
 }
 
-abbrev pub nowhere : Stand
-nowhere = record { below = 0; callers = 0; line = 0; is_behind_call = false }
+abbrev pub nowhere : Bool → Stand
+nowhere has_ended = record { below = 0; callers = 0; line = 0; is_behind_call = false; has_ended = has_ended }
 
 abbrev pub stand_by : Raw → controls.Control → Stand
-stand_by program control.Idle = nowhere
+stand_by program control.Idle = nowhere false
 stand_by program (control.Running stack) = stand_on program stack
 stand_by program (control.Faulted fault stack) = stand_on program stack
-stand_by program (control.Ended value) = nowhere
+stand_by program (control.Ended value) = nowhere true
 
 -- where a worker stands
 abbrev pub stand_of : MachineView → ℕ → Stand

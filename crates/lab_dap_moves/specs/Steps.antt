@@ -37,8 +37,12 @@ is_there aim.LineNoDeeper from now = not (nat_eq now.line from.line) && not (is_
 is_there aim.Shallower from now = is_deeper from now
 is_there aim.Far from now = false
 
+-- a move that leads to the end of `main` ends with the program
+abbrev pub arrived : Stand → Why
+arrived now = cond now.has_ended why.ProgramEnded why.Arrived
+
 abbrev pub arrival : Aim → Stand → Stand → Option Why
-arrival to from now = cond (is_there to from now) (Some why.Arrived) None
+arrival to from now = cond (is_there to from now) (Some (arrived now)) None
 
 -- the first of two that is there
 abbrev pub or_why : Option Why → Option Why → Option Why
@@ -87,9 +91,14 @@ abbrev pub fault_of : controls.Control → Option Fault
 fault_of (control.Faulted fault stack) = Some fault
 fault_of _ = None
 
-abbrev pub reply_why : StepReply → Why
-reply_why (stepped.Blocked reason) = why.Blocked reason
-reply_why _ = why.Ended
+-- a worker that is not blocked has no further step: its `main` has returned, or its code says nothing further
+abbrev pub no_step : Bool → Why
+no_step true = why.ProgramEnded
+no_step false = why.Ended
+
+abbrev pub reply_why : Bool → StepReply → Why
+reply_why has_ended (stepped.Blocked reason) = why.Blocked reason
+reply_why has_ended _ = no_step has_ended
 
 abbrev pub fault_or : Option Fault → Why → Why
 fault_or (Some fault) other = why.Fault fault
@@ -98,7 +107,8 @@ fault_or None other = other
 -- why a worker cannot make a step by a choice: it stands at a fault, is blocked, or has no step
 abbrev pub hindrance : MachineView → ℕ → Choice → Why
 hindrance m worker choice =
-    fault_or (fault_of (control_at m worker)) (reply_why (step_reply m (label_at worker choice)))
+    fault_or (fault_of (control_at m worker))
+    (reply_why (stand_of m worker).has_ended (step_reply m (label_at worker choice)))
 
 -- ---- one step
 

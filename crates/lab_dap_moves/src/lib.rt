@@ -28,4 +28,4 @@ pub use moved::{Moved, Why};
 pub use renewal::renewed;
 pub use runs::run;
 pub use step::fault_of;
-pub use targets::{ReadyTask, tasks_ready};
+pub use targets::{ReadyTask, tasks_for, tasks_ready};

@@ -21,6 +21,8 @@ pub(crate) struct Stand {
     /// Whether that instruction stands right behind a call. No line begins there: what a call answers is taken
     /// by a further instruction of the same statement.
     pub(crate) is_behind_call: bool,
+    /// Whether its initial task has ended: `main` has returned.
+    pub(crate) has_ended: bool,
 }
 
 fn is_call(instruction: Option<Instr>) -> bool
@@ -47,17 +49,19 @@ fn stand_on(program: &Program, stack: &Stack) -> Stand
         callers: stack.top.callers.len(),
         line: program.line(frame.body, frame.next),
         is_behind_call: is_behind_call(program, frame),
+        has_ended: false,
     }
 }
 
-fn nowhere() -> Stand
-    ensures { result ≡ nowhere }
+fn nowhere(has_ended: bool) -> Stand
+    ensures { result ≡ nowhere has_ended }
 {
     Stand {
         below: 0,
         callers: 0,
         line: 0,
         is_behind_call: false,
+        has_ended,
     }
 }
 
@@ -67,7 +71,8 @@ fn stand_by(program: &Program, control: Option<&Control>) -> Stand
     match control {
         Some(Control::Running(stack)) => stand_on(program, stack),
         Some(Control::Faulted(_, stack)) => stand_on(program, stack),
-        Some(Control::Idle) | Some(Control::Ended(_)) | None => nowhere(),
+        Some(Control::Ended(_)) => nowhere(true),
+        Some(Control::Idle) | None => nowhere(false),
     }
 }
 

@@ -8,7 +8,7 @@ ghost use Rattle.om_undo.specs.Machines.{control_at, state_in, step_reply};
 ghost use Rattle.om_shell_debugger.specs.Calls.{with_step};
 ghost use Rattle.om_shell_debugger.specs.Stops.{watched};
 ghost use Rattle.lab_dap_moves.specs.Stands.{stand_of};
-ghost use Rattle.lab_dap_moves.specs.Steps.{arrival, break_why, came_of, fault_of, fault_why, hindrance, is_there, met_break, or_why, reply_why, step_book, watch_why, why_after, why_there};
+ghost use Rattle.lab_dap_moves.specs.Steps.{arrival, arrived, break_why, came_of, fault_of, fault_why, hindrance, is_there, met_break, no_step, or_why, reply_why, step_book, watch_why, why_after, why_there};
 
 use crate::moved::Why;
 use crate::stand::{Stand, is_deeper, stand_of};
@@ -73,11 +73,22 @@ fn is_there(aim: Aim, from: Stand, now: Stand) -> bool
     }
 }
 
+// Why a move ends that leads to where a worker stands: with the program, where its `main` has returned.
+fn arrived(now: Stand) -> Why
+    ensures { result ≡ arrived now }
+{
+    if now.has_ended {
+        Why::ProgramEnded
+    } else {
+        Why::Arrived
+    }
+}
+
 fn arrival(aim: Aim, from: Stand, now: Stand) -> Option<Why>
     ensures { result ≡ arrival aim from now }
 {
     if is_there(aim, from, now) {
-        Some(Why::Arrived)
+        Some(arrived(now))
     } else {
         None
     }
@@ -223,13 +234,24 @@ pub fn fault_of(control: Option<&Control>) -> Option<Fault>
     Some(*fault)
 }
 
+// Why a worker that is not blocked makes no step.
+fn no_step(has_ended: bool) -> Why
+    ensures { result ≡ no_step has_ended }
+{
+    if has_ended {
+        Why::ProgramEnded
+    } else {
+        Why::Ended
+    }
+}
+
 // Why a step was not made that was replied so.
-fn reply_why(reply: &StepReply) -> Why
-    ensures { result ≡ reply_why reply.now }
+fn reply_why(has_ended: bool, reply: &StepReply) -> Why
+    ensures { result ≡ reply_why has_ended reply.now }
 {
     match reply {
         StepReply::Blocked(why) => Why::Blocked(*why),
-        StepReply::Done { .. } | StepReply::Ended => Why::Ended,
+        StepReply::Done { .. } | StepReply::Ended => no_step(has_ended),
     }
 }
 
@@ -242,7 +264,8 @@ fn hindrance(alloc: Global, machine: &Machine, worker: u8, choice: &Choice) -> A
         return Ok(Why::Fault(fault));
     }
     let reply = machine.peek(alloc, worker, *choice)?;
-    Ok(reply_why(&reply))
+    let has_ended = stand_of(machine, worker).has_ended;
+    Ok(reply_why(has_ended, &reply))
 }
 
 /// Makes a worker's step by a choice, where it can be made and recorded.

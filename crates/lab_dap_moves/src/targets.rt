@@ -1,17 +1,17 @@
 //! The tasks that are ready, which a worker may begin at a scheduling point.
 
-ghost use Rattle.std.specs.Prelude.{◌≡◌, IfOk, map, option_copied, unwrap_or};
+ghost use Rattle.std.specs.Prelude.{◌≡◌, ◌<◌, IfOk, map, option_copied, unwrap_or};
 ghost use Rattle.om_shell_debugger.specs.Looks.{directive_line};
 ghost use Rattle.om_state.specs.declared.value.Task.TheVariants.{Absent};
 ghost use Rattle.om_undo.specs.Machines.{state_in};
 ghost use Rattle.om_undo.specs.ReadyNames.{ready_names};
-ghost use Rattle.lab_dap_moves.specs.Targets.{ready_task, tasks_ready};
+ghost use Rattle.lab_dap_moves.specs.Targets.{may_begin, ready_task, tasks_for, tasks_ready};
 
 use om_foot::{Name, Obj};
 use om_seq::AllocResult;
-use om_state::Task;
-use om_undo::Machine;
+use om_state::{Choice, Task};
 use om_undo::laws::{one_ready_list, ready_names_are_ready};
+use om_undo::{Machine, StepReply};
 use std::alloc::Global;
 
 /// A task that is ready to be begun.
@@ -69,4 +69,28 @@ pub fn tasks_ready(alloc: Global, machine: &Machine) -> AllocResult<Vec<ReadyTas
 {
     let names = names_ready(alloc, machine)?;
     tasks_named(alloc, machine, &names)
+}
+
+// Whether a worker may begin a task where it stands.
+fn may_begin(alloc: Global, machine: &Machine, worker: u8, task: &ReadyTask) -> AllocResult<bool>
+    requires { worker < machine.now.workers }
+    ensures { IfOk result (λ may. may ≡ may_begin machine.now worker task.now) }
+{
+    let reply = machine.peek(alloc, worker, Choice::Start(task.name))?;
+    Ok(matches!(reply, StepReply::Done { .. }))
+}
+
+/// The ready tasks that a worker may begin where it stands, by their names, ascending. The only error is out of memory.
+pub fn tasks_for(alloc: Global, machine: &Machine, worker: u8) -> AllocResult<Vec<ReadyTask>>
+    requires { worker < machine.now.workers }
+    ensures { IfOk result (λ tasks. tasks.items ≡ tasks_for machine.now worker) }
+{
+    let ready = tasks_ready(alloc, machine)?;
+    let mut tasks = Vec::new(alloc);
+    for task in &ready {
+        if may_begin(alloc, machine, worker, task)? {
+            tasks.push(*task)?;
+        }
+    }
+    Ok(tasks)
 }

@@ -34,7 +34,7 @@ use Rattle.lab_dap_runs.specs.declared.moves.Stepping.{Stepping}
 use Rattle.lab_dap_runs.specs.declared.moves.Stepping.TheVariants as stepping
 use Rattle.lab_dap_stops.specs.declared.told.Way.{Way}
 use Rattle.lab_dap_stops.specs.declared.told.Way.TheVariants as way
-use Rattle.lab_dap_runs.specs.Rooms.{IsRoom}
+use Rattle.lab_dap_runs.specs.Rooms.{IsRenewal, IsRoom}
 use Rattle.lab_dap_stops.specs.Stops.{IsToldOf, ToldView, as_line, nearly_full, quiet, returned, waits_for_tasks}
 use Rattle.lab_dap_stops.specs.Tellings.{IsOverWith, IsStopped}
 
@@ -178,7 +178,7 @@ is_full _ = false
 pub data Reaches (source : List ℕ) (went : BookView → Course) (before : BookView) : BookView → Type 0 where
   Here : Reaches source went before before
   Further : (ready full after : BookView) (made : Moved) (is_renewed : Bool) → Reaches source went before ready
-      → Comes (went ready) made full → made.why ≡ why.Full → IsRoom source full after is_renewed
+      → Comes (went ready) made full → made.why ≡ why.Full → IsRenewal source full after is_renewed
       → Reaches source went before after
 
 -- a way back that was renewed as often as that was needed came to this, and left this book

@@ -1,12 +1,12 @@
 //! Room in the journal of a book.
 
-ghost use Rattle.std.specs.Prelude.{◌≡◌, IfOk, IfSome, OnOk};
-ghost use Rattle.om_frontend.specs.Verdict.{IsProgramOf};
-ghost use Rattle.lab_dap_runs.specs.Rooms.{IsRoom, needs_room};
+ghost use Rattle.std.specs.Prelude.{◌≡◌, IfOk, OnOk};
+ghost use Rattle.lab_dap_runs.specs.Rooms.{IsProgramAgain, IsRenewal, IsRoom, needs_room};
 
 use lab_dap_moves::renewed;
 use om_book::Book;
 use om_code::Program;
+use om_frontend::laws::one_verdict;
 use om_frontend::program_of;
 use om_lexer::FaultCode;
 use om_seq::AllocResult;
@@ -17,8 +17,9 @@ const FEW: u64 = 140_000;
 
 // The program of a source, made once more; `None` where it has none.
 fn program_again(alloc: Global, source: &[u8]) -> AllocResult<Option<Program>>
-    ensures { IfOk result (λ program. IfSome program (IsProgramOf source.now)) }
+    ensures { IfOk result (IsProgramAgain source.now) }
 {
+    one_verdict();
     match program_of(alloc, source) {
         Ok(program) => Ok(Some(program)),
         Err(fault) => {
@@ -34,7 +35,7 @@ fn program_again(alloc: Global, source: &[u8]) -> AllocResult<Option<Program>>
 /// Begins a new book of the source with the steps that stand, and says whether that was done. Where it can't be, the
 /// old one stays. The only error is out of memory.
 pub(crate) fn renew(alloc: Global, source: &[u8], book: &mut Book) -> AllocResult<bool>
-    ensures room { IfOk result (IsRoom source.now book.old book.new) }
+    ensures renewal { IfOk result (IsRenewal source.now book.old book.new) }
     ensures workers { OnOk result (book.new.start.workers ≡ book.old.start.workers) }
 {
     let Some(program) = program_again(alloc, source)? else {

@@ -62,6 +62,13 @@ module _ {A : Type 0} (does : Phase → A → A → Asked → Answer → Type 0)
       let h = subst (Went does manner before after a b pending rest) is went in
       h.2
 
+  -- and the session goes on
+  pub open_waits : (before after : Server A) (a b : Option (List ℕ)) (pending rest : List ℕ) (s : Batch)
+      → Went does manner before after a b pending rest s → s ≡ batch.Waits → after.is_ended ≡ false
+  open_waits before after a b pending rest s went is =
+      let h = subst (Went does manner before after a b pending rest) is went in
+      h.3
+
   -- the input ended
   pub end_serves : (t : Talker A) (before after : Server A)
       (left_before left left_after held_before a b held_after : Option (List ℕ)) (pending rest next content : List ℕ)

@@ -1,5 +1,5 @@
 -- The answer to a request, with the messages that were sent.
-use Rattle.std.proofs.Common.{◌≡◌, ℕ, ◌<◌, ◌≤◌, List, [], ◌++◌, Option, length, take, drop, refl, sym, ap, subst, ◌∙◌}
+use Rattle.std.proofs.Common.{◌≡◌, ℕ, ◌<◌, ◌≤◌, false, List, [], ◌++◌, Option, length, take, drop, refl, sym, ap, subst, ◌∙◌}
 use Rattle.std.specs.Io.KnownBytes.{Appends}
 use Rattle.std.specs.Prelude.{string_bytes}
 use Rattle.serde_json.specs.View.{view}
@@ -99,12 +99,12 @@ module _ {A : Type 0} (does : Phase → A → A → Asked → Answer → Type 0)
 
   -- one message more was handled
   pub more_handled : (first : Talker A) (before after : Server A) (a b c : Option (List ℕ)) (pending bytes rest left : List ℕ)
-      (s : Step) (to : ℕ) → Handled does manner first (talker_of before) a b pending rest
+      (s : Step) (to : ℕ) → Handled does manner first (talker_of before) a b pending rest → before.is_ended ≡ false
       → Came does manner before after b c bytes s → s ≡ step.Answered to → bytes ≡ rest → left ≡ drop to rest
       → Handled does manner first (talker_of after) a c pending left
-  more_handled first before after a b c pending bytes rest left s to h came is same e =
+  more_handled first before after a b c pending bytes rest left s to h open came is same e =
       subst (Handled does manner first (talker_of after) a c pending) (sym e)
-      (handled_more does manner first before after a b c pending rest to h
+      (handled_more does manner first before after a b c pending rest to h open
       (came_answered before after b c bytes rest s to came is same))
 
 -- what was sent to a client whose input is no session

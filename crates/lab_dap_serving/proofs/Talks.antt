@@ -1,5 +1,5 @@
 -- How steps of a conversation compose.
-use Rattle.std.proofs.Common.{◌≡◌, ◌≢◌, ℕ, ◌+◌, true, List, [], ◌∷◌, ◌++◌, Option, length, take, drop, refl, sym, ap, subst, ◌∙◌}
+use Rattle.std.proofs.Common.{◌≡◌, ◌≢◌, ℕ, ◌+◌, true, false, List, [], ◌∷◌, ◌++◌, Option, length, take, drop, refl, sym, ap, subst, ◌∙◌}
 use Rattle.std.proofs.Common.{append_assoc, append-nil, inl, inr, take-append-drop}
 use Rattle.std.proofs.lemmas.List.{length-take-le}
 use Rattle.std.specs.Io.KnownBytes.{Appends, Consumes, IsAtEnd}
@@ -36,9 +36,9 @@ module _ {A : Type 0} (does : Phase → A → A → Asked → Answer → Type 0)
 
   -- one message more
   pub handled_more : (first : Talker A) (before after : Server A) (a b c : Option (List ℕ)) (pending rest : List ℕ) (to : ℕ)
-      → Handled does manner first (talker_of before) a b pending rest → IsExchanged does manner before after b c rest to
-      → Handled does manner first (talker_of after) a c pending (drop to rest)
-  handled_more first before after a b c pending rest to h x =
+      → Handled does manner first (talker_of before) a b pending rest → before.is_ended ≡ false
+      → IsExchanged does manner before after b c rest to → Handled does manner first (talker_of after) a c pending (drop to rest)
+  handled_more first before after a b c pending rest to h open x =
       let inside = front_within rest x.from to x.front in
       let alone = front_alone rest x.from to x.front in
       let long : length (take to rest) ≡ to = length-take-le to rest inside.2 in
@@ -53,7 +53,7 @@ module _ {A : Type 0} (does : Phase → A → A → Asked → Answer → Type 0)
             (subst (λ l. Talked does manner start ((came ++ h.bytes) ++ take to rest) l (talker_of after))
             (append_assoc said h.text x.text)
             (one_more start (talker_of before) (talker_of after) (came ++ h.bytes) (said ++ h.text) (take to rest) x.text
-            x.from (h.talked start came said p) front x.answers));
+            x.from (h.talked start came said p) open front x.answers));
         parted = h.parted ∙ ap (λ l. h.bytes ++ l) (sym (take-append-drop to rest))
             ∙ sym (append_assoc h.bytes (take to rest) (drop to rest));
         appends = Appends-trans a b c h.text x.text h.appends x.appends;

@@ -1,5 +1,5 @@
 -- What the steps of a session do. For proofs: what one message, and what all that were read came to.
-use Rattle.std.specs.Prelude.{◌≡◌, ◌≢◌, ◌⊎◌, ℕ, true, List, [], ◌++◌, take, drop, Option}
+use Rattle.std.specs.Prelude.{◌≡◌, ◌≢◌, ◌⊎◌, ℕ, true, false, List, [], ◌++◌, take, drop, Option}
 use Rattle.std.specs.Io.KnownBytes.{Consumes, Appends}
 use Rattle.serde_json.specs.Data.{Data}
 use Rattle.lab_dap_wire.specs.declared.fault.HeaderFault.{HeaderFault}
@@ -65,7 +65,7 @@ module _ {A : Type 0} (does : Phase → A → A → Asked → Answer → Type 0)
   abbrev pub Went : Server A → Server A → Option (List ℕ) → Option (List ℕ) → List ℕ → List ℕ → Batch → Type 0
   Went before after held_before held_after pending rest batch.Waits =
       Handled (talker_of before) (talker_of after) held_before held_after pending rest
-      × (front_of rest ≡ Incomplete) × (after.outbox.bytes.items ≡ [])
+      × (front_of rest ≡ Incomplete) × (after.outbox.bytes.items ≡ []) × (after.is_ended ≡ false)
   Went before after held_before held_after pending rest batch.Ended =
       Handled (talker_of before) (talker_of after) held_before held_after pending rest × (after.is_ended ≡ true)
   Went before after held_before held_after pending rest batch.Malformed =

@@ -107,10 +107,10 @@ module _ {A : Type 0} (does : Phase → A → A → Asked → Answer → Type 0)
 
   -- ---- all of them
 
-  -- messages came one behind the other, and each was answered before the next
+  -- messages came one behind the other, and each was answered before the next; none behind the one that ended the session
   pub data Talked : Talker A → List ℕ → List ℕ → Talker A → Type 0 where
     silent : (a : Talker A) → Talked a [] [] a
-    one_more : (a b c : Talker A) (bytes text message answer : List ℕ) (from : ℕ) → Talked a bytes text b
+    one_more : (a b c : Talker A) (bytes text message answer : List ℕ) (from : ℕ) → Talked a bytes text b → b.is_ended ≡ false
         → front_of message ≡ Message from (length message) → Answers b c (drop from message) answer
         → Talked a (bytes ++ message) (text ++ answer) c
 

@@ -1,6 +1,6 @@
 //! A session over streams.
 
-ghost use Rattle.std.specs.Prelude.{◌≡◌, ◌≤◌, [], ℕ, List, length, take, drop, Some, IfOk, OnOk};
+ghost use Rattle.std.specs.Prelude.{◌≡◌, ◌≤◌, [], ℕ, List, length, take, drop, false, Some, IfOk, OnOk};
 ghost use Rattle.std.specs.Io.KnownBytes.{Appends};
 ghost use Rattle.serde_json.specs.View.{view};
 ghost use Rattle.lab_dap_wire.specs.declared.front.Front.TheVariants.{Message};
@@ -271,7 +271,8 @@ impl<A: Adapter> Server<A> {
         input: &mut Input,
         writer: &mut W,
     ) -> Result<Batch, ShellFault>
-        requires { self.old.outbox.bytes.items ≡ [] }
+        requires none { self.old.outbox.bytes.items ≡ [] }
+        requires open { self.old.is_ended ≡ false }
         ensures went { IfOk result (Went A.does A.manner self.old self.new (W.contents writer.old)
             (W.contents writer.new) input.old.pending.items input.new.pending.items) }
         ensures reads { OnOk result (input.new.reads_left ≡ input.old.reads_left) }
@@ -313,7 +314,8 @@ impl<A: Adapter> Server<A> {
         reader: &mut I,
         writer: &mut W,
     ) -> Result<u8, ShellFault>
-        requires { self.old.outbox.bytes.items ≡ [] }
+        requires none { self.old.outbox.bytes.items ≡ [] }
+        requires open { self.old.is_ended ≡ false }
         ensures { IfOk result (Serves A.does A.manner (talker_of self.old) (I.remaining reader.old)
             (I.remaining reader.new) (W.contents writer.old) (W.contents writer.new)) }
     {

@@ -1,5 +1,5 @@
 -- Why a thread stopped, in words.
-use Rattle.std.specs.Prelude.{◌≡◌, ℕ, zero, suc, ◌+◌, ℤ, pos, Bool, true, false, cond, nat_eq, nat_lt, List, [], ◌∷◌, ◌++◌, Option, None, Some}
+use Rattle.std.specs.Prelude.{◌≡◌, ◌&&◌, ℕ, zero, suc, ◌+◌, ℤ, pos, Bool, true, false, cond, nat_eq, nat_lt, List, [], ◌∷◌, ◌++◌, Option, None, Some}
 use Rattle.std.specs.Prelude.{codes, decimal, string_bytes, unwrap_or}
 use Rattle.std.specs.Fmt.{signed_decimal}
 use Rattle.std.specs.Str.Lossy.{utf8_lossy}
@@ -22,7 +22,7 @@ use Rattle.om_undo_history.specs.declared.reply.UndoReply.TheVariants as undo_re
 use Rattle.lab_dap_debuggee.specs.Debuggees.{hit_at}
 use Rattle.lab_dap_debuggee.specs.Words.{blocked_at, blocked_code, blocked_text, is_live, without_feed}
 use Rattle.lab_dap_debuggee.specs.declared.debuggee.Hit.{Hit}
-use Rattle.lab_dap_moves.specs.Targets.{tasks_ready}
+use Rattle.lab_dap_moves.specs.Targets.{tasks_for}
 use Rattle.lab_dap_moves.specs.declared.moved.Moved.{Moved}
 use Rattle.lab_dap_moves.specs.declared.moved.Why.{Why}
 use Rattle.lab_dap_moves.specs.declared.moved.Why.TheVariants as why
@@ -74,14 +74,14 @@ loud r description worker text = record {
 abbrev pub arrived : Way → ℕ → ToldView
 arrived way.Step steps = quiet reason.Step (codes "step") []
 arrived way.Run steps = quiet reason.Step (codes "step") []
-arrived way.Back steps = quiet reason.Step (codes "step back") (codes "steps taken back: " ++ decimal steps)
+arrived _ steps = quiet reason.Step (codes "step back") (codes "steps taken back: " ++ decimal steps)
 
 abbrev pub limit : Way → ℕ → ToldView
 limit way.Step steps =
     quiet reason.Step (codes "many steps") (decimal steps ++ codes " steps were made in one line; step again to go on")
 limit way.Run steps =
     quiet reason.Pause (codes "many steps") (decimal steps ++ codes " steps were made; continue goes on")
-limit way.Back steps =
+limit _ steps =
     quiet reason.Step (codes "many steps") (decimal steps ++ codes " steps were taken back; go back again to go on")
 
 abbrev pub at_start : ToldView
@@ -132,19 +132,20 @@ abbrev pub before_choice : Bool → List ℕ
 before_choice true = codes "; step into begins task "
 before_choice false = codes " or "
 
--- the tasks that a step may begin, the first one among them or not
+-- the tasks that a worker may begin, the first one among them or not
 abbrev pub choices_from : Bool → List ReadyTask → List ℕ
 choices_from is_first [] = []
 choices_from is_first (task ∷ tasks) =
     (before_choice is_first ++ utf8_lossy (name_text task.name)) ++ choices_from false tasks
 
 -- `; step into begins task 0.1.0.1 or 0.1.0.2`, where a step may begin tasks
-abbrev pub choices : MachineView → Blocked → List ℕ
-choices m b = cond (waits_for_tasks b) (choices_from true (tasks_ready m)) []
+abbrev pub choices : MachineView → ℕ → Blocked → List ℕ
+choices m worker b =
+    cond (nat_lt worker m.workers && waits_for_tasks b) (choices_from true (tasks_for m worker)) []
 
 abbrev pub held_up : MachineView → ℕ → Blocked → List ℕ → ToldView
 held_up m worker b words =
-    loud reason.Step (codes "blocked " ++ blocked_code b) worker (blocked_text b words ++ choices m b)
+    loud reason.Step (codes "blocked " ++ blocked_code b) worker (blocked_text b words ++ choices m worker b)
 
 -- ---- why no worker makes a step
 
@@ -195,6 +196,10 @@ abbrev pub nearly_full : ℕ → ToldView
 nearly_full worker = loud reason.Step (codes "journal nearly full") worker
     (codes "more than 90,000 steps stand: go back, or restart, to have room for further ones")
 
+-- no call has room in the journal, and none could be made
+abbrev pub full : ℕ → ToldView
+full worker = loud reason.Step (codes "journal full") worker (codes "no step has room in the journal: restart")
+
 -- ---- an undo
 
 abbrev pub nothing : ℕ → ToldView
@@ -210,13 +215,20 @@ abbrev pub refusal : MachineView → InTheWay → List ℕ
 refusal m w = with_line (as_line (undo_text m.program w.worker (undo_reply.Conflict w.serial w.worker w.object)))
     (line_of_step m.history.entries w.serial)
 
-abbrev pub steps_back : ℕ → List ℕ
-steps_back steps = codes "; " ++ (decimal steps ++ codes " steps of the line are taken back")
+-- a line back tells of the line's steps
+abbrev pub of_line : Way → List ℕ
+of_line way.Back = codes " of the line"
+of_line _ = []
 
--- how many steps of the line were taken back, where some were
-abbrev pub half : ℕ → List ℕ
-half steps = cond (nat_eq steps 0) []
-    (cond (nat_eq steps 1) (codes "; 1 step of the line is taken back") (steps_back steps))
+abbrev pub steps_back : Way → ℕ → List ℕ
+steps_back w steps = codes "; " ++ (decimal steps ++ (codes " steps" ++ (of_line w ++ codes " are taken back")))
+
+abbrev pub step_back : Way → List ℕ
+step_back w = codes "; 1 step" ++ (of_line w ++ codes " is taken back")
+
+-- how many steps were taken back, where some were
+abbrev pub half : Way → ℕ → List ℕ
+half w steps = cond (nat_eq steps 0) [] (cond (nat_eq steps 1) (step_back w) (steps_back w steps))
 
 abbrev pub way_out : InTheWay → List ℕ
 way_out w = codes ". Take back that step first: go back with worker " ++ (decimal w.worker
@@ -241,8 +253,8 @@ refused worker what w = record {
 }
 
 -- an undo is refused behind so many that were made
-abbrev pub undone_not : MachineView → ℕ → ℕ → InTheWay → ToldView
-undone_not m worker steps w = refused worker (refusal m w ++ half steps) w
+abbrev pub undone_not : Way → MachineView → ℕ → ℕ → InTheWay → ToldView
+undone_not back m worker steps w = refused worker (refusal m w ++ half back steps) w
 
 -- ---- all
 
@@ -254,13 +266,13 @@ told_by w hits m worker steps why.Ended words = ended worker
 told_by w hits m worker steps (why.Break line) words = broken hits line
 told_by w hits m worker steps (why.Watch cell) words = watched m cell
 told_by w hits m worker steps why.Limit words = limit w steps
-told_by w hits m worker steps why.Full words = nearly_full worker
+told_by w hits m worker steps why.Full words = full worker
 told_by w hits m worker steps why.ProgramEnded words = program_ended m
 told_by w hits m worker steps why.Stuck words = stuck m
 told_by w hits m worker steps why.Nothing words = nothing worker
 told_by w hits m worker steps why.Start words = at_start
 told_by w hits m worker steps (why.Refused serial other at step) words =
-    undone_not m worker steps (record { serial = serial; worker = other; object = at; step = step })
+    undone_not w m worker steps (record { serial = serial; worker = other; object = at; step = step })
 
 -- what is told of a move's end; of a fault and of a step that is blocked in words for people
 abbrev pub told_of : Way → List Hit → MachineView → Moved → List ℕ → ToldView

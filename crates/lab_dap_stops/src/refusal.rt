@@ -3,9 +3,9 @@
 ghost use Rattle.std.specs.Prelude.{◌≡◌, IfOk, string_bytes};
 ghost use Rattle.om_shell_commands.specs.Steps.{undo_text};
 ghost use Rattle.om_undo_history.specs.declared.reply.UndoReply.TheVariants as undo_reply;
-ghost use Rattle.lab_dap_stops.specs.Stops.{as_line, half, line_of_step, refusal, refused, steps_back, told, undo_said, undone_not, way_out, with_roll};
+ghost use Rattle.lab_dap_stops.specs.Stops.{as_line, half, line_of_step, of_line, refusal, refused, step_back, steps_back, told, undo_said, undone_not, way_out, with_roll};
 
-use crate::told::{Told, with_line};
+use crate::told::{Told, Way, with_line};
 use lab_dap_debuggee::words::line_of;
 use lab_dap_replies::Reason;
 use om_foot::Obj;
@@ -27,24 +27,43 @@ fn line_of_step(entries: &[Entry], serial: u64) -> u32
     0
 }
 
-// So many steps of a line are taken back.
-fn steps_back(alloc: Global, steps: u32) -> AllocResult<String>
-    ensures { IfOk result (λ text. string_bytes text ≡ steps_back steps) }
+// Whose steps a way back takes back.
+fn of_line(back: Way) -> &'static str
+    ensures { result.now ≡ of_line back }
 {
-    format!(in alloc; "; {steps} steps of the line are taken back")
+    match back {
+        Way::Back => " of the line",
+        Way::Step | Way::Run | Way::RunBack => "",
+    }
 }
 
-// How many steps of a line are taken back, if some are.
-fn half(alloc: Global, steps: u32) -> AllocResult<String>
-    ensures { IfOk result (λ text. string_bytes text ≡ half steps) }
+// So many steps are taken back.
+fn steps_back(alloc: Global, back: Way, steps: u32) -> AllocResult<String>
+    ensures { IfOk result (λ text. string_bytes text ≡ steps_back back steps) }
+{
+    let of_line = of_line(back);
+    format!(in alloc; "; {steps} steps{of_line} are taken back")
+}
+
+// One step is taken back.
+fn step_back(alloc: Global, back: Way) -> AllocResult<String>
+    ensures { IfOk result (λ text. string_bytes text ≡ step_back back) }
+{
+    let of_line = of_line(back);
+    format!(in alloc; "; 1 step{of_line} is taken back")
+}
+
+// How many steps are taken back, if some are.
+fn half(alloc: Global, back: Way, steps: u32) -> AllocResult<String>
+    ensures { IfOk result (λ text. string_bytes text ≡ half back steps) }
 {
     if steps == 0 {
         return Ok(String::new(alloc));
     }
     if steps == 1 {
-        return String::from_str(alloc, "; 1 step of the line is taken back");
+        return step_back(alloc, back);
     }
-    steps_back(alloc, steps)
+    steps_back(alloc, back, steps)
 }
 
 /// The step that stands in the way of an undo.
@@ -127,18 +146,27 @@ fn refused(alloc: Global, worker: u8, what: &str, way: &InTheWay) -> AllocResult
     })
 }
 
-/// An undo of a worker that is refused behind so many that were made.
+/// The undos of a worker that were made before one that is refused, and which way they went.
+#[derive(Clone, Copy)]
+pub(crate) struct Undone {
+    pub(crate) back: Way,
+    pub(crate) worker: u8,
+    pub(crate) steps: u32,
+}
+
+/// An undo of a worker that is refused behind those that were made.
 pub(crate) fn undone_not(
     alloc: Global,
     machine: &Machine,
-    worker: u8,
-    steps: u32,
+    undone: Undone,
     way: &InTheWay,
 ) -> AllocResult<Told>
-    ensures { IfOk result (λ made. told made ≡ undone_not machine.now worker steps way.now) }
+    ensures { IfOk result
+        (λ made. told made ≡ undone_not undone.back machine.now undone.worker undone.steps way.now) }
 {
+    let worker = undone.worker;
     let mut what = refusal(alloc, machine, way)?;
-    let half = half(alloc, steps)?;
+    let half = half(alloc, undone.back, undone.steps)?;
     what.push_str(half.as_str())?;
     refused(alloc, worker, what.as_str(), way)
 }

@@ -8,7 +8,7 @@ ghost use Rattle.om_memory.specs.Memories.{plain_or_idle};
 ghost use Rattle.om_shell_commands.specs.Stops.{watch_text};
 ghost use Rattle.om_shell_commands.specs.Values.{print_text};
 ghost use Rattle.om_undo.specs.Machines.{state_in};
-ghost use Rattle.lab_dap_stops.specs.Stops.{IsToldOf, arrived, as_line, before_choice, broken, choices, choices_from, ended, faulted, held_up, limit, line_at, main_text, nearly_full, nothing, program_ended, reason_text, returned, stuck, stuck_text, told, told_of, value_in, waiting, waiting_text, waits_for_tasks, watched};
+ghost use Rattle.lab_dap_stops.specs.Stops.{IsToldOf, arrived, as_line, before_choice, broken, choices, choices_from, ended, faulted, full, held_up, limit, line_at, main_text, nearly_full, nothing, program_ended, reason_text, returned, stuck, stuck_text, told, told_of, value_in, waiting, waiting_text, waits_for_tasks, watched};
 
 use crate::refusal::{InTheWay, undone_not};
 use crate::told::{Told, Way, loud, plain, plain_loud, quiet, with_line};
@@ -16,7 +16,7 @@ use lab_dap_debuggee::words::{
     blocked_at, blocked_code, blocked_text, is_live, line_of, task_text,
 };
 use lab_dap_debuggee::{Hit, hit_at};
-use lab_dap_moves::{Moved, ReadyTask, Why, tasks_ready};
+use lab_dap_moves::{Moved, ReadyTask, Why, tasks_for};
 use lab_dap_replies::Reason;
 use lab_help::{blocked_words, fault_words};
 use om_code::frame::Fault;
@@ -35,7 +35,7 @@ fn arrived(alloc: Global, way: Way, steps: u32) -> AllocResult<Told>
     match way {
         Way::Step => plain(alloc, Reason::Step, "step", ""),
         Way::Run => plain(alloc, Reason::Step, "step", ""),
-        Way::Back => {
+        Way::Back | Way::RunBack => {
             let text = format!(in alloc; "steps taken back: {steps}")?;
             quiet(alloc, Reason::Step, "step back", text)
         }
@@ -57,7 +57,7 @@ fn limit(alloc: Global, way: Way, steps: u32) -> AllocResult<Told>
             let text = format!(in alloc; "{steps} steps were made; continue goes on")?;
             quiet(alloc, Reason::Pause, "many steps", text)
         }
-        Way::Back => {
+        Way::Back | Way::RunBack => {
             let text = format!(in alloc; "{steps} steps were taken back; go back again to go on")?;
             quiet(alloc, Reason::Step, "many steps", text)
         }
@@ -172,15 +172,15 @@ fn push_choices(alloc: Global, text: &mut String, tasks: &[ReadyTask]) -> AllocR
     Ok(())
 }
 
-// Which tasks a step may begin, where it is one that waits for some.
-fn choices(alloc: Global, machine: &Machine, why: Blocked) -> AllocResult<String>
-    ensures { IfOk result (λ text. string_bytes text ≡ choices machine.now why) }
+// Which tasks a worker may begin, where it waits for some.
+fn choices(alloc: Global, machine: &Machine, worker: u8, why: Blocked) -> AllocResult<String>
+    ensures { IfOk result (λ text. string_bytes text ≡ choices machine.now worker why) }
 {
     let mut text = String::new(alloc);
-    if !waits_for_tasks(why) {
+    if worker >= machine.workers() || !waits_for_tasks(why) {
         return Ok(text);
     }
-    let ready = tasks_ready(alloc, machine)?;
+    let ready = tasks_for(alloc, machine, worker)?;
     push_choices(alloc, &mut text, ready.as_slice())?;
     Ok(text)
 }
@@ -197,7 +197,7 @@ fn held_up(
 {
     let code = blocked_code(alloc, why)?;
     let mut text = blocked_text(alloc, why, words)?;
-    let choices = choices(alloc, machine, why)?;
+    let choices = choices(alloc, machine, worker, why)?;
     text.push_str(choices.as_str())?;
     let description = format!(in alloc; "blocked {code}")?;
     loud(alloc, Reason::Step, description.as_str(), worker, text)
@@ -310,6 +310,14 @@ pub fn nearly_full(alloc: Global, worker: u8) -> AllocResult<Told>
     plain_loud(alloc, Reason::Step, "journal nearly full", worker, text)
 }
 
+// No call has room in the journal.
+fn full(alloc: Global, worker: u8) -> AllocResult<Told>
+    ensures { IfOk result (λ made. told made ≡ full worker) }
+{
+    let text = "no step has room in the journal: restart";
+    plain_loud(alloc, Reason::Step, "journal full", worker, text)
+}
+
 // A worker that has no further step.
 fn ended(alloc: Global, worker: u8) -> AllocResult<Told>
     ensures { IfOk result (λ made. told made ≡ ended worker) }
@@ -369,7 +377,7 @@ fn told_in(
         Why::Break(line) => broken(alloc, hits, line),
         Why::Watch(cell) => watched(alloc, machine, cell),
         Why::Limit => limit(alloc, went.way, steps),
-        Why::Full => nearly_full(alloc, worker),
+        Why::Full => full(alloc, worker),
         Why::ProgramEnded => program_ended(alloc, machine),
         Why::Stuck => stuck(alloc, machine),
         Why::Nothing => nothing(alloc, worker),
@@ -386,7 +394,12 @@ fn told_in(
                 object,
                 step,
             };
-            undone_not(alloc, machine, worker, steps, &way)
+            let undone = Undone {
+                back: went.way,
+                worker,
+                steps,
+            };
+            undone_not(alloc, machine, undone, &way)
         }
     }
 }

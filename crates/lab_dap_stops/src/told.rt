@@ -14,7 +14,10 @@ pub enum Way {
     Step,
     /// Forwards, as far as it goes.
     Run,
+    /// Back, by the steps of one worker, up to the start of a line.
     Back,
+    /// Back, as far as it goes.
+    RunBack,
 }
 
 /// A stop, and what the console is told of it.

@@ -25,7 +25,7 @@ returns-then-self-clause-went g c = (
   more_handled g.A.Adapter.does g.A.Adapter.manner (talker_of c.args.self.now) c.messages.self c.step.new.self
       (g.W.Write.contents c.args.writer.now) (g.W.Write.contents c.messages.writer) (g.W.Write.contents c.step.new.writer)
       c.args.input.now.pending.items c.deref.result.now c.messages.input.pending.items c.discard.new.self.pending.items
-      c.in_ok-to.field-0 c.in-Answered.to c.messages.invariant.handled c.in_ok-to.ensures c.in-Answered.is
+      c.in_ok-to.field-0 c.in-Answered.to c.messages.invariant.handled c.messages.invariant.open c.in_ok-to.ensures c.in-Answered.is
       c.deref.ensures.value c.discard.ensures.pending,
   c.if-self.true,
 )
@@ -35,11 +35,12 @@ messages-preserved g c = record {
   handled = more_handled g.A.Adapter.does g.A.Adapter.manner (talker_of c.args.self.now) c.messages.self c.step.new.self
       (g.W.Write.contents c.args.writer.now) (g.W.Write.contents c.messages.writer) (g.W.Write.contents c.step.new.writer)
       c.args.input.now.pending.items c.deref.result.now c.messages.input.pending.items c.discard.new.self.pending.items
-      c.in_ok-to.field-0 c.in-Answered.to c.messages.invariant.handled c.in_ok-to.ensures c.in-Answered.is
+      c.in_ok-to.field-0 c.in-Answered.to c.messages.invariant.handled c.messages.invariant.open c.in_ok-to.ensures c.in-Answered.is
       c.deref.ensures.value c.discard.ensures.pending;
   none = none_left g.A.Adapter.does g.A.Adapter.manner c.messages.self c.step.new.self
       (g.W.Write.contents c.messages.writer) (g.W.Write.contents c.step.new.writer) c.deref.result.now
       c.messages.input.pending.items c.in_ok-to.field-0 c.in-Answered.to c.in_ok-to.ensures c.in-Answered.is
       c.deref.ensures.value;
+  open = c.if-self.false;
   reads = c.discard.ensures.reads ∙ c.messages.invariant.reads;
 }

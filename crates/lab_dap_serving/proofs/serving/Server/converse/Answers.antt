@@ -1,6 +1,6 @@
 use Rattle.std.proofs.Common.{rules, tests}
 use Rattle.lab_dap_serving.specs.Talks.{talker_of}
-use Rattle.lab_dap_serving.proofs.Reading.{end_serves, ended_serves, malformed_serves, none_waits, nothing_read, read_on}
+use Rattle.lab_dap_serving.proofs.Reading.{end_serves, ended_serves, malformed_serves, none_waits, nothing_read, open_waits, read_on}
 use Rattle.lab_dap_serving.proofs.serving.Server.converse.Goals as goal
 
 pub reads-init : goal.reads-init
@@ -8,7 +8,8 @@ reads-init g c = record {
   so_far = nothing_read g.A.Adapter.does g.A.Adapter.manner (talker_of c.args.self.now)
       (g.I.Read.remaining c.args.reader.now) (g.W.Write.contents c.args.writer.now) c.new-input.result.pending.items
       c.new-input.ensures.pending;
-  none = c.requires;
+  none = c.requires.none;
+  open = c.requires.open;
 }
 
 pub returns-in-Ended : goal.returns-in-Ended
@@ -50,6 +51,10 @@ reads-preserved g c = record {
       c.in_ok-answer_pending.field-0 c.reads.invariant.so_far c.in_ok-answer_pending.ensures.went c.in-Waits.is
       c.in_ok-read_more.ensures.read;
   none = none_waits g.A.Adapter.does g.A.Adapter.manner c.reads.self c.answer_pending.new.self
+      (g.W.Write.contents c.reads.writer) (g.W.Write.contents c.answer_pending.new.writer)
+      c.reads.input.pending.items c.answer_pending.new.input.pending.items c.in_ok-answer_pending.field-0
+      c.in_ok-answer_pending.ensures.went c.in-Waits.is;
+  open = open_waits g.A.Adapter.does g.A.Adapter.manner c.reads.self c.answer_pending.new.self
       (g.W.Write.contents c.reads.writer) (g.W.Write.contents c.answer_pending.new.writer)
       c.reads.input.pending.items c.answer_pending.new.input.pending.items c.in_ok-answer_pending.field-0
       c.in_ok-answer_pending.ensures.went c.in-Waits.is;

@@ -1,4 +1,4 @@
-use Rattle.std.proofs.Common.{◌≡◌, []}
+use Rattle.std.proofs.Common.{◌≡◌, false, []}
 use Rattle.lab_dap_serving.specs.Steps.{SoFar}
 use Rattle.lab_dap_serving.specs.Talks.{talker_of}
 use Rattle.lab_dap_serving.proofs.serving.Server.converse.Given as goal
@@ -9,6 +9,7 @@ invariant-reads g l = record {
       (g.I.Read.remaining l.reader) (g.W.Write.contents l.initial.writer) (g.W.Write.contents l.writer)
       l.input.pending.items;
   none : l.self.outbox.bytes.items ≡ [];
+  open : l.self.is_ended ≡ false;
 }
 
 abbrev pub decreases-reads : goal.decreases-reads
