@@ -35,3 +35,23 @@
      (concat "> " text "\n"
              (gethash "result" (dap-request session "evaluate" :expression text :context "repl"))
              "\n"))))
+
+;; dap-mode shows the frames of one thread. This shows where each thread is, and the steps that stand.
+(defun omplab-threads ()
+  "Show all threads with their frames, and the steps that stand, in a buffer."
+  (interactive)
+  (let* ((session (dap--cur-session-or-die))
+         (threads (gethash "threads" (dap-request session "threads")))
+         (history (gethash "result" (dap-request session "evaluate" :expression "history" :context "repl")))
+         (lines (mapcar
+                 (lambda (thread)
+                   (let ((frames (gethash "stackFrames" (dap-request session "stackTrace" :threadId (gethash "id" thread)))))
+                     (format "thread %d  %s  %s\n" (gethash "id" thread) (gethash "name" thread)
+                             (mapconcat (lambda (frame) (format "%s:%d" (gethash "name" frame) (gethash "line" frame)))
+                                        (append frames nil) "  |  "))))
+                 threads)))
+    (with-current-buffer (get-buffer-create "*threads*")
+      (erase-buffer)
+      (insert (apply #'concat lines) (string-join (split-string (or history "") "\n") "; ") "\n")
+      (goto-char (point-min)))
+    (display-buffer "*threads*")))

@@ -1,5 +1,5 @@
 -- Moves as an editor asks for them: what each does to the book, and what is told of it.
-use Rattle.std.specs.Prelude.{◌≡◌, ℕ, ◌%◌, ℤ, Bool, true, false, cond, List, Option, None, Some, IsSome, codes}
+use Rattle.std.specs.Prelude.{◌≡◌, ◌||◌, ℕ, ◌%◌, ℤ, Bool, true, false, cond, List, Option, None, Some, IsSome, codes, option_map, slice_get}
 use Rattle.std.specs.Int.{cast_unsigned, w32}
 use Rattle.om_book.specs.Books.{BookView, machine_of}
 use Rattle.om_code.specs.declared.frame.Fault.{Fault}
@@ -8,8 +8,6 @@ use Rattle.om_shell_debugger.specs.declared.marks.Marks.{Marks}
 use Rattle.om_state.specs.declared.step.Blocked.{Blocked}
 use Rattle.om_state.specs.declared.step.Choice.TheVariants.{Next, Start}
 use Rattle.om_undo.specs.Machines.{MachineView, control_at}
-use Rattle.om_state.specs.Ready.{first_behind}
-use Rattle.om_undo.specs.ReadyNames.{ready_names}
 use Rattle.lab_dap_answers.specs.declared.answer.End.TheVariants as ending
 use Rattle.lab_dap_answers.specs.declared.answer.Moved as answers
 use Rattle.lab_dap_debuggee.specs.Words.{blocked_at}
@@ -22,6 +20,8 @@ use Rattle.lab_dap_moves.specs.FarBacks.{all_back, back_alone}
 use Rattle.lab_dap_moves.specs.Forward.{Comes, Course, course, into_line, moved_by_step, out_of_depth, over_line, run_alone}
 use Rattle.lab_dap_moves.specs.Runs.{ran}
 use Rattle.lab_dap_moves.specs.Steps.{fault_of}
+use Rattle.lab_dap_moves.specs.Targets.{tasks_for}
+use Rattle.lab_dap_moves.specs.declared.targets.ReadyTask.{ReadyTask}
 use Rattle.lab_dap_moves.specs.declared.moved.Moved.{Moved}
 use Rattle.lab_dap_moves.specs.declared.moved.Why.{Why}
 use Rattle.lab_dap_moves.specs.declared.moved.Why.TheVariants as why
@@ -88,9 +88,10 @@ abbrev pub may_begin : Option Blocked → Bool
 may_begin None = false
 may_begin (Some b) = waits_for_tasks b
 
--- the first task that is ready, where the worker waits for tasks
+-- the first of the ready tasks that the worker may begin, where it waits for tasks
 abbrev pub first_task : MachineView → ℕ → Option (List ℕ)
-first_task m worker = cond (may_begin (blocked_at m worker)) (first_behind None (ready_names m)) None
+first_task m worker =
+    cond (may_begin (blocked_at m worker)) (option_map (λ t. t.name) (slice_get (tasks_for m worker) 0)) None
 
 -- the task that a step into begins: the one that is chosen, else the first
 abbrev pub task_by : Option ℕ → Numbers Thing → MachineView → ℕ → Option (List ℕ)
@@ -174,29 +175,30 @@ abbrev pub is_full : Why → Bool
 is_full why.Full = true
 is_full _ = false
 
--- where a way back finds no room for a further record, the book is renewed, and the way goes on
-pub data Reaches (source : List ℕ) (went : BookView → Course) (before : BookView) : BookView → Type 0 where
-  Here : Reaches source went before before
-  Further : (ready full after : BookView) (made : Moved) (is_renewed : Bool) → Reaches source went before ready
+-- where a way back finds no room for a further record, the book is renewed, and the way goes on; whether one of these
+-- renewals was made
+pub data Reaches (source : List ℕ) (went : BookView → Course) (before : BookView) : BookView → Bool → Type 0 where
+  Here : Reaches source went before before false
+  Further : (ready full after : BookView) (made : Moved) (was is_renewed : Bool) → Reaches source went before ready was
       → Comes (went ready) made full → made.why ≡ why.Full → IsRenewal source full after is_renewed
-      → Reaches source went before after
+      → Reaches source went before after (was || is_renewed)
 
 -- a way back that was renewed as often as that was needed came to this, and left this book
-pub record CameBack (source : List ℕ) (went : BookView → Course) (before after : BookView) (made : Moved) : Type 0 where
+pub record CameBack (source : List ℕ) (went : BookView → Course) (before after : BookView) (made : Moved)
+    (is_renewed : Bool) : Type 0 where
   pub ready : BookView
-  pub reached : Reaches source went before ready
+  pub reached : Reaches source went before ready is_renewed
   pub comes : Comes (went ready) made after
 
 pub record IsRunBack (went : BookView → Course) (before after : Debuggee) (old new : Shown) (moved : answers.Moved)
     : Type 0 where
   pub is_renewed : Bool
-  pub is_told_renewed : Bool
-  pub told_too : is_renewed ≡ true → is_told_renewed ≡ true
+  pub is_renewed_again : Bool
   pub ready : BookView
   pub room : IsRoom before.source.items before.book ready is_renewed
   pub made : Moved
-  pub came : CameBack before.source.items went ready after.book made
-  pub answered : IsAnswered after (made_of way.Back made is_told_renewed None) old new moved
+  pub came : CameBack before.source.items went ready after.book made is_renewed_again
+  pub answered : IsAnswered after (made_of way.RunBack made (is_renewed || is_renewed_again) None) old new moved
   pub settings : after ≡ record before { book = after.book }
 
 -- ---- a jump

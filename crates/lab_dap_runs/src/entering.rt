@@ -13,7 +13,7 @@ use crate::room::make_room;
 use lab_dap_answers::Moved;
 use lab_dap_debuggee::words::blocked_at;
 use lab_dap_debuggee::{Debuggee, NotDone, Shown, Thing, is_nearly_full, worker_of};
-use lab_dap_moves::step_instruction;
+use lab_dap_moves::{step_instruction, tasks_for};
 use lab_dap_requests::Granularity;
 use lab_dap_session::Numbered;
 use lab_dap_stops::{Way, waits_for_tasks};
@@ -23,7 +23,7 @@ use om_shell_commands::TaskName;
 use om_shell_debugger::Marks;
 use om_state::{Blocked, Choice};
 use om_undo::Machine;
-use std::alloc::Global;
+use std::alloc::{AllocError, Global};
 
 // The task that a target is the start of.
 fn target_of(thing: Option<&Thing>) -> Option<&TaskName>
@@ -53,7 +53,7 @@ fn may_begin(why: Option<Blocked>) -> bool
     }
 }
 
-// The first task that is ready, where the worker waits for tasks.
+// The first of the ready tasks that the worker may begin, where it waits for tasks.
 fn first_task(alloc: Global, machine: &Machine, worker: u8) -> AllocResult<Option<TaskName>>
     requires { worker < machine.now.workers }
     ensures { IfOk result (λ task. task ≡ first_task machine.now worker) }
@@ -62,8 +62,9 @@ fn first_task(alloc: Global, machine: &Machine, worker: u8) -> AllocResult<Optio
     if !may_begin(why) {
         return Ok(None);
     }
-    match machine.next_ready(None) {
-        Some(name) => Ok(Some(TaskName::new(alloc, name)?)),
+    let tasks = tasks_for(alloc, machine, worker)?;
+    match tasks.first() {
+        Some(task) => Ok(Some(TaskName::new(alloc, task.name)?)),
         None => Ok(None),
     }
 }
@@ -158,7 +159,9 @@ fn begun(
         return refuse_forwards(alloc, debuggee, shown, worker, None);
     }
     let is_renewed = make_room(alloc, debuggee.source.as_slice(), &mut debuggee.book)?;
-    let moved = make_begin(alloc, &mut debuggee.book, &debuggee.marks, worker, into)?;
+    let Ok(moved) = make_begin(alloc, &mut debuggee.book, &debuggee.marks, worker, into) else {
+        return Err(AllocError);
+    };
     let made = made_of(Way::Step, moved, is_renewed, None);
     answer_to(alloc, debuggee, shown, &made)
 }
@@ -179,6 +182,8 @@ pub fn begin(
     ensures target { IfOk result (λ moved. IsTarget beginning.target shown.old.things) }
     ensures refused { IfErr result (λ why. is_refused why ≡ true
         → IsThread debuggee.old.book thread → IsTarget beginning.target shown.old.things → ⊥) }
+    ensures unchanged { IfErr result (λ why. is_refused why ≡ true
+        → (debuggee.new ≡ debuggee.old) × (shown.new ≡ shown.old)) }
     ensures moved { IfOk result (IsForwards (is_nearly_full debuggee.old.book) way.Step None
         (begun (task_by beginning.target shown.old.things (machine_of debuggee.old.book) (thread - 1))
         beginning.granularity debuggee.old.marks (thread - 1)) (thread - 1)

@@ -14,7 +14,7 @@ use lab_dap_stops::Way;
 use om_book::Book;
 use om_seq::AllocResult;
 use om_shell_debugger::Marks;
-use std::alloc::Global;
+use std::alloc::{AllocError, Global};
 
 /// Which workers go back: all, the last step first, or this one alone.
 #[derive(Clone, Copy)]
@@ -70,7 +70,7 @@ fn go_back(
 ) -> AllocResult<Back>
     requires { far.worker < book.old.start.workers }
     ensures { IfOk result (λ back. CameBack source.now (run_back far.is_single marks.now far.worker)
-        book.old book.new back.moved) }
+        book.old book.new back.moved back.is_renewed) }
 {
     let mut moved = make_run_back(alloc, book, marks, far)?;
     let mut is_renewed = false;
@@ -79,7 +79,8 @@ fn go_back(
         if !is_full(moved.why) {
             return Ok(Back { moved, is_renewed });
         }
-        is_renewed = renew(alloc, source, book)?;
+        let is_renewed_now = renew(alloc, source, book)?;
+        is_renewed = is_renewed || is_renewed_now;
         moved = make_run_back(alloc, book, marks, far)?;
         left -= 1;
     }
@@ -99,9 +100,11 @@ fn gone_back(
 {
     let source = debuggee.source.as_slice();
     let is_renewed = make_room(alloc, source, &mut debuggee.book)?;
-    let back = go_back(alloc, source, &mut debuggee.book, &debuggee.marks, far)?;
+    let Ok(back) = go_back(alloc, source, &mut debuggee.book, &debuggee.marks, far) else {
+        return Err(AllocError);
+    };
     let is_renewed = is_renewed || back.is_renewed;
-    let made = made_of(Way::Back, back.moved, is_renewed, None);
+    let made = made_of(Way::RunBack, back.moved, is_renewed, None);
     answer_to(alloc, debuggee, shown, &made)
 }
 
@@ -116,6 +119,8 @@ pub fn run_back(
 ) -> Result<Moved, NotDone>
     ensures thread { IfOk result (λ moved. IsThread debuggee.old.book thread) }
     ensures refused { IfErr result (λ why. is_refused why ≡ true → IsThread debuggee.old.book thread → ⊥) }
+    ensures unchanged { IfErr result (λ why. is_refused why ≡ true
+        → (debuggee.new ≡ debuggee.old) × (shown.new ≡ shown.old)) }
     ensures moved { IfOk result (IsRunBack (run_back is_single debuggee.old.marks (thread - 1))
         debuggee.old debuggee.new shown.old shown.new) }
 {

@@ -20,7 +20,7 @@ use om_seq::AllocResult;
 use om_shell_debugger::Marks;
 use om_state::Choice;
 use om_undo::Machine;
-use std::alloc::Global;
+use std::alloc::{AllocError, Global};
 
 /// How far a step forwards goes.
 #[derive(Clone, Copy)]
@@ -196,6 +196,8 @@ pub fn step(
 ) -> Result<Moved, NotDone>
     ensures thread { IfOk result (λ moved. IsThread debuggee.old.book thread) }
     ensures refused { IfErr result (λ why. is_refused why ≡ true → IsThread debuggee.old.book thread → ⊥) }
+    ensures unchanged { IfErr result (λ why. is_refused why ≡ true
+        → (debuggee.new ≡ debuggee.old) × (shown.new ≡ shown.old)) }
     ensures moved { IfOk result (IsForwards (is_nearly_full debuggee.old.book) way.Step None
         (stepped stride.stepping stride.granularity debuggee.old.marks (thread - 1)) (thread - 1)
         debuggee.old debuggee.new shown.old shown.new) }
@@ -221,7 +223,9 @@ fn stepped(
         return refuse_forwards(alloc, debuggee, shown, worker, None);
     }
     let is_renewed = make_room(alloc, debuggee.source.as_slice(), &mut debuggee.book)?;
-    let moved = make_step(alloc, &mut debuggee.book, &debuggee.marks, worker, stride)?;
+    let Ok(moved) = make_step(alloc, &mut debuggee.book, &debuggee.marks, worker, stride) else {
+        return Err(AllocError);
+    };
     let made = made_of(Way::Step, moved, is_renewed, None);
     answer_to(alloc, debuggee, shown, &made)
 }
@@ -285,13 +289,15 @@ fn gone_on(
         return refuse_forwards(alloc, debuggee, shown, worker, continued);
     }
     let is_renewed = make_room(alloc, debuggee.source.as_slice(), &mut debuggee.book)?;
-    let moved = make_run(
+    let Ok(moved) = make_run(
         alloc,
         &mut debuggee.book,
         &debuggee.marks,
         worker,
         is_single,
-    )?;
+    ) else {
+        return Err(AllocError);
+    };
     let made = made_of(Way::Run, moved, is_renewed, continued);
     answer_to(alloc, debuggee, shown, &made)
 }
@@ -309,6 +315,8 @@ pub fn go_on(
 ) -> Result<Moved, NotDone>
     ensures thread { IfOk result (λ moved. IsThread debuggee.old.book thread) }
     ensures refused { IfErr result (λ why. is_refused why ≡ true → IsThread debuggee.old.book thread → ⊥) }
+    ensures unchanged { IfErr result (λ why. is_refused why ≡ true
+        → (debuggee.new ≡ debuggee.old) × (shown.new ≡ shown.old)) }
     ensures moved { IfOk result (IsForwards (is_nearly_full debuggee.old.book) way.Run (Some (not is_single))
         (gone_on is_single debuggee.old.marks (thread - 1)) (thread - 1)
         debuggee.old debuggee.new shown.old shown.new) }
@@ -348,7 +356,9 @@ fn gone_back(
         debuggee.old debuggee.new shown.old shown.new) }
 {
     let is_renewed = make_room(alloc, debuggee.source.as_slice(), &mut debuggee.book)?;
-    let moved = make_back(alloc, &mut debuggee.book, worker, granularity)?;
+    let Ok(moved) = make_back(alloc, &mut debuggee.book, worker, granularity) else {
+        return Err(AllocError);
+    };
     let made = made_of(Way::Back, moved, is_renewed, None);
     answer_to(alloc, debuggee, shown, &made)
 }
@@ -365,6 +375,8 @@ pub fn back(
 ) -> Result<Moved, NotDone>
     ensures thread { IfOk result (λ moved. IsThread debuggee.old.book thread) }
     ensures refused { IfErr result (λ why. is_refused why ≡ true → IsThread debuggee.old.book thread → ⊥) }
+    ensures unchanged { IfErr result (λ why. is_refused why ≡ true
+        → (debuggee.new ≡ debuggee.old) × (shown.new ≡ shown.old)) }
     ensures moved { IfOk result (IsMoved way.Back None (gone_back granularity (thread - 1))
         debuggee.old debuggee.new shown.old shown.new) }
 {

@@ -85,6 +85,7 @@ fn paused(alloc: Global, machine: &Machine, shown: &mut Shown, worker: u8) -> Al
 pub fn pause(alloc: Global, book: &Book, shown: &mut Shown, thread: u64) -> Result<Moved, NotDone>
     ensures thread { IfOk result (λ moved. IsThread book.now thread) }
     ensures refused { IfErr result (λ why. is_refused why ≡ true → IsThread book.now thread → ⊥) }
+    ensures unchanged { IfErr result (λ why. is_refused why ≡ true → shown.new ≡ shown.old) }
     ensures moved { IfOk result (IsStopped (machine_of book.now) (thread - 1)
         (quiet reason.Pause (codes "paused") []) false None shown.old shown.new) }
 {
@@ -164,6 +165,8 @@ pub fn jump(
     ensures thread { IfOk result (λ moved. IsThread debuggee.old.book thread) }
     ensures refused { IfErr result (λ why. is_refused why ≡ true → IsThread debuggee.old.book thread
         → jump_of (known target shown.old.things) ≡ None) }
+    ensures unchanged { IfErr result (λ why. is_refused why ≡ true
+        → (debuggee.new ≡ debuggee.old) × (shown.new ≡ shown.old)) }
     ensures moved { IfOk result (λ moved. (serial : ℕ) × (jump_of (known target shown.old.things) ≡ Some serial)
         × IsJump serial (thread - 1) debuggee.old debuggee.new shown.old shown.new moved) }
 {
