@@ -4,3 +4,4 @@ pub mod LineBacks
 pub mod Renewals
 pub mod OnOk
 pub mod Items
+pub mod Picking

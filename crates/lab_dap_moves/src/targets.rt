@@ -1,6 +1,6 @@
 //! The tasks that are ready, which a worker may begin at a scheduling point.
 
-ghost use Rattle.std.specs.Prelude.{◌≡◌, ◌<◌, IfOk, map, option_copied, unwrap_or};
+ghost use Rattle.std.specs.Prelude.{◌≡◌, ◌<◌, [], ◌∷◌, ◌++◌, IfOk, OnOk, cond, filter, map, option_copied, unwrap_or};
 ghost use Rattle.om_shell_debugger.specs.Looks.{directive_line};
 ghost use Rattle.om_state.specs.declared.value.Task.TheVariants.{Absent};
 ghost use Rattle.om_undo.specs.Machines.{state_in};
@@ -80,17 +80,40 @@ fn may_begin(alloc: Global, machine: &Machine, worker: u8, task: &ReadyTask) -> 
     Ok(matches!(reply, StepReply::Done { .. }))
 }
 
+// Adds a task where it may be begun.
+fn push_if(tasks: &mut Vec<ReadyTask>, task: &ReadyTask, may: bool) -> AllocResult<()>
+    ensures { OnOk result (tasks.new.items ≡ cond may (tasks.old.items ++ task.now ∷ []) tasks.old.items) }
+{
+    if may {
+        tasks.push(*task)?;
+    }
+    Ok(())
+}
+
+// Those of these tasks that a worker may begin.
+fn begun_by(
+    alloc: Global,
+    machine: &Machine,
+    worker: u8,
+    ready: &[ReadyTask],
+) -> AllocResult<Vec<ReadyTask>>
+    requires { worker < machine.now.workers }
+    ensures { IfOk result
+        (λ tasks. tasks.items ≡ filter (may_begin machine.now worker) ready.now) }
+{
+    let mut tasks = Vec::new(alloc);
+    for task in ready {
+        let may = may_begin(alloc, machine, worker, task)?;
+        push_if(&mut tasks, task, may)?;
+    }
+    Ok(tasks)
+}
+
 /// The ready tasks that a worker may begin where it stands, by their names, ascending. The only error is out of memory.
 pub fn tasks_for(alloc: Global, machine: &Machine, worker: u8) -> AllocResult<Vec<ReadyTask>>
     requires { worker < machine.now.workers }
     ensures { IfOk result (λ tasks. tasks.items ≡ tasks_for machine.now worker) }
 {
     let ready = tasks_ready(alloc, machine)?;
-    let mut tasks = Vec::new(alloc);
-    for task in &ready {
-        if may_begin(alloc, machine, worker, task)? {
-            tasks.push(*task)?;
-        }
-    }
-    Ok(tasks)
+    begun_by(alloc, machine, worker, ready.as_slice())
 }
