@@ -10,7 +10,7 @@ ghost use Rattle.om_shell_commands.specs.Values.{print_text};
 ghost use Rattle.om_undo.specs.Machines.{state_in};
 ghost use Rattle.lab_dap_stops.specs.Stops.{IsToldOf, arrived, as_line, before_choice, broken, choices, choices_from, ended, faulted, full, held_up, limit, line_at, main_text, nearly_full, nothing, program_ended, reason_text, returned, stuck, stuck_text, told, told_of, value_in, waiting, waiting_text, waits_for_tasks, watched};
 
-use crate::refusal::{InTheWay, undone_not};
+use crate::refusal::{InTheWay, Undone, undone_not};
 use crate::told::{Told, Way, loud, plain, plain_loud, quiet, with_line};
 use lab_dap_debuggee::words::{
     blocked_at, blocked_code, blocked_text, is_live, line_of, task_text,
