@@ -1,211 +1,187 @@
-//! The program that is debugged, what an editor set, and how each request is carried out.
+//! How each request is carried out.
 
-ghost use Rattle.std.specs.Prelude.{◌≤◌, IfOk};
-ghost use Rattle.lab_dap.specs.Done.{IsRefused};
+ghost use Rattle.std.specs.Prelude.{◌≡◌, IfOk};
+ghost use Rattle.lab_dap_serving.specs.Replies.{IsRefused};
+ghost use Rattle.lab_dap.specs.Looks.{part_of};
 
-use crate::breakpoints::Wanted;
-use crate::launching::Settings;
+use crate::disk::Disk;
+use crate::looking::{Look, column_from};
+use crate::moving::Move;
+use crate::refusing::text;
+use crate::seat::Seat;
+use crate::setting::from_client;
 use lab_dap_answers::Answer;
-use lab_dap_debuggee::{Debuggee, NotDone, Shown, Span};
-use lab_dap_replies::{Body, Manner, SourceName};
+use lab_dap_replies::{Body, Manner};
 use lab_dap_requests::Asked;
-use lab_dap_runs::Stepping;
+use lab_dap_runs::{Beginning, Stepping, Stride};
 use lab_dap_serving::Adapter;
 use lab_dap_session::Phase;
+use lab_dap_views::{Part, Span};
 use om_seq::AllocResult;
-use std::alloc::{AllocError, Global};
-use std::rt::Files;
+use std::alloc::Global;
 
-/// A program that is launched, and how.
-pub(crate) struct Launched {
-    pub(crate) debuggee: Debuggee,
-    pub(crate) settings: Settings,
-}
-
-// By hand: its parts are dropped in one place.
-impl Drop for Launched {
-    fn drop(self) {
-        let Launched { debuggee, settings } = self;
-        drop(debuggee);
-        drop(settings);
-    }
-}
-
-/// A program that an editor debugs.
-pub(crate) struct Desk<'r, R: Files> {
-    /// What reads and writes files.
-    pub(crate) rt: &'r R,
-    /// How many workers there are where a launch does not say, 1 to 32.
-    pub(crate) workers: u8,
-    /// The folder to which paths are relative where a launch does not say.
-    pub(crate) folder: String,
-    /// Whether the client knows that what was shown may hold no longer.
-    pub(crate) has_invalidated: bool,
-    pub(crate) manner: Manner,
-    pub(crate) wanted: Wanted,
-    pub(crate) shown: Shown,
-    pub(crate) launched: Option<Launched>,
-    /// Whether the script was written.
-    pub(crate) is_kept: bool,
-    ghost at_least_one: { 1 ≤ workers },
-    ghost at_most_32: { workers ≤ 32 },
-}
-
-// By hand: its parts are dropped in one place.
-impl<'r, R: Files> Drop for Desk<'r, R> {
-    fn drop(self) {
-        let Desk {
-            rt: _,
-            workers: _,
-            folder,
-            has_invalidated: _,
-            manner,
-            wanted,
-            shown,
-            launched,
-            is_kept: _,
-        } = self;
-        drop(folder);
-        drop(manner);
-        drop(wanted);
-        drop(shown);
-        drop(launched);
-    }
-}
-
-/// A request that is refused, and why.
-pub(crate) fn refusal(alloc: Global, words: &str) -> AllocResult<Answer>
+// A request that is never carried out.
+fn never(alloc: Global) -> AllocResult<Answer>
     ensures { IfOk result IsRefused }
 {
-    Ok(Answer::Refused(String::from_str(alloc, words)?))
+    Ok(Answer::Refused(text(alloc, "this request is never carried out")?))
 }
 
-/// What is answered where a request is not done.
-pub(crate) fn refused(alloc: Global, not_done: NotDone) -> AllocResult<Answer>
-    ensures { IfOk result IsRefused }
-{
-    match not_done {
-        NotDone::Memory => Err(AllocError),
-        NotDone::Because(words) => refusal(alloc, words),
-        NotDone::Told(words) => Ok(Answer::Refused(words)),
-    }
-}
+impl<D: Disk> Adapter for Seat<D> {
+    ghost use Rattle.lab_dap.specs.Done.{does_by, manner_of};
 
-impl<'r, R: Files> Desk<'r, R> {
-    /// A desk at which no program is launched. It takes no memory.
-    pub(crate) fn new(rt: &'r R, alloc: Global, workers: u8, folder: String) -> Desk<'r, R>
-        requires least { 1 ≤ workers }
-        requires most { workers ≤ 32 }
-    {
-        Desk {
-            rt,
-            workers,
-            folder,
-            has_invalidated: false,
-            manner: Manner {
-                source: SourceName {
-                    name: String::new(alloc),
-                    path: String::new(alloc),
-                },
-                lines_start_at_1: true,
-                has_types: false,
-            },
-            wanted: Wanted::new(alloc),
-            shown: Shown::new(alloc),
-            launched: None,
-            is_kept: false,
-        }
-    }
+    ghost does = { does_by D.holds D.keeps };
 
-    /// A line that the client sent, from 1.
-    pub(crate) fn line(&self, line: u64) -> u64 {
-        if self.manner.lines_start_at_1 {
-            line
-        } else {
-            line.saturating_add(1)
-        }
-    }
-}
-
-impl<'r, R: Files> Adapter for Desk<'r, R> {
-    ghost use Rattle.lab_dap.specs.Done.{IsDone};
-
-    ghost does = { λ phase before after asked answer. IsDone phase asked answer };
-
-    ghost manner = { λ desk. desk.manner };
+    ghost manner = { manner_of };
 
     fn manner(&self) -> &Manner {
-        &self.manner
+        &self.desk.manner
     }
 
     fn carry_out(&mut self, alloc: Global, phase: Phase, asked: &Asked) -> AllocResult<Answer> {
         match asked {
-            Asked::Initialize(client) => Ok(self.initialize(*client)),
-            Asked::Launch(launch) => self.launch(alloc, launch),
+            Asked::Initialize(client) => Ok(self.desk.initialize(*client)),
+            Asked::Launch(launch) => self.desk.launch(alloc, &self.disk, launch),
             Asked::SetBreakpoints { path, lines } => {
-                self.set_breakpoints(alloc, path.as_ref(), lines.as_slice())
+                self.desk.set_lines(alloc, path.as_ref(), lines.as_slice())
             }
-            Asked::SetFunctionBreakpoints { names } => self.set_functions(alloc, names.as_slice()),
-            Asked::SetDataBreakpoints { names } => self.watch(alloc, names.as_slice()),
+            Asked::SetFunctionBreakpoints { names } => self
+                .desk
+                .set_functions(alloc, names.as_slice()),
+            Asked::SetDataBreakpoints { names } => self.desk.set_watches(alloc, names.as_slice()),
             Asked::DataBreakpointInfo {
                 name,
                 reference,
                 frame: _,
-            } => self.watch_info(alloc, name.as_slice(), *reference),
+            } => {
+                let reference = *reference;
+                self.desk
+                    .look(alloc, Look::Watch { reference }, name.as_slice())
+            },
             Asked::SetExceptionBreakpoints => Ok(Answer::Done(Body::Empty)),
             Asked::BreakpointLocations { path, first, last } => {
-                self.locations(alloc, path.as_ref(), *first, last.unwrap_or(*first))
+                self.desk
+                    .locations(alloc, path.as_ref(), *first, last.unwrap_or(*first))
             }
-            Asked::ConfigurationDone => self.configuration_done(alloc),
-            Asked::Threads => self.threads(alloc),
+            Asked::ConfigurationDone => self.desk.configuration_done(alloc),
+            Asked::Threads => self.desk.threads(alloc),
             Asked::StackTrace {
                 thread,
                 start,
                 levels,
-            } => self.frames(alloc, *thread, (*start, *levels)),
-            Asked::Scopes { frame } => self.scopes(alloc, *frame),
+            } => {
+                let (thread, start, levels) = (*thread, *start, *levels);
+                self.desk.look(
+                    alloc,
+                    Look::Frames {
+                        thread,
+                        start,
+                        levels,
+                    },
+                    &[],
+                )
+            },
+            Asked::Scopes { frame } => {
+                let frame = *frame;
+                self.desk.look(alloc, Look::Scopes { frame }, &[])
+            },
             Asked::Variables {
                 reference,
                 start,
                 count,
-            } => self.variables(alloc, *reference, (*start, *count)),
+            } => {
+                let reference = *reference;
+                let part = part_of(*start, *count);
+                self.desk
+                    .look(alloc, Look::Variables { reference, part }, &[])
+            },
             Asked::Next {
                 thread,
                 granularity,
-            } => self.step(alloc, *thread, (Stepping::Over, *granularity)),
+            } => {
+                let stepping = Stepping::Over;
+                let granularity = *granularity;
+                self.desk.make(
+                    alloc,
+                    *thread,
+                    Move::Step(Stride {
+                        stepping,
+                        granularity,
+                    }),
+                )
+            }
             Asked::StepIn {
                 thread,
                 granularity,
                 target,
-            } => self.begin(alloc, *thread, (*target, *granularity)),
+            } => {
+                let (target, granularity) = (*target, *granularity);
+                self.desk.make(
+                    alloc,
+                    *thread,
+                    Move::Begin(Beginning {
+                        target,
+                        granularity,
+                    }),
+                )
+            }
             Asked::StepOut {
                 thread,
                 granularity,
-            } => self.step(alloc, *thread, (Stepping::Out, *granularity)),
-            Asked::StepInTargets { frame } => self.tasks(alloc, *frame),
+            } => {
+                let stepping = Stepping::Out;
+                let granularity = *granularity;
+                self.desk.make(
+                    alloc,
+                    *thread,
+                    Move::Step(Stride {
+                        stepping,
+                        granularity,
+                    }),
+                )
+            }
+            Asked::StepInTargets { frame } => {
+                let frame = *frame;
+                self.desk.look(alloc, Look::Tasks { frame }, &[])
+            },
             Asked::StepBack {
                 thread,
                 granularity,
-            } => self.back(alloc, *thread, *granularity),
+            } => self.desk.make(alloc, *thread, Move::Back(*granularity)),
             Asked::ReverseContinue { thread, is_single } => {
-                self.run_back(alloc, *thread, *is_single)
+                let is_single = *is_single;
+                self.desk.make(alloc, *thread, Move::RunBack { is_single })
             }
-            Asked::Continue { thread, is_single } => self.go_on(alloc, *thread, *is_single),
-            Asked::Pause { thread } => self.pause(alloc, *thread),
-            Asked::GotoTargets { path: _, line } => self.jumps(alloc, *line),
-            Asked::Goto { thread, target } => self.jump(alloc, *thread, *target),
+            Asked::Continue { thread, is_single } => {
+                let is_single = *is_single;
+                self.desk.make(alloc, *thread, Move::Run { is_single })
+            }
+            Asked::Pause { thread } => self.desk.make(alloc, *thread, Move::Pause),
+            Asked::GotoTargets { path: _, line } => {
+                let line = from_client(self.desk.manner.lines_start_at_1, *line);
+                self.desk.look(alloc, Look::Jumps { line }, &[])
+            },
+            Asked::Goto { thread, target } => {
+                let target = *target;
+                self.desk.make(alloc, *thread, Move::Jump { target })
+            }
             Asked::Evaluate {
                 expression,
                 frame,
                 is_command,
             } => {
                 if *is_command {
-                    self.obey(alloc, phase, expression.as_slice(), *frame)
+                    self.desk.obey(alloc, phase, expression.as_slice(), *frame)
                 } else {
-                    self.evaluate(alloc, expression.as_slice(), *frame)
+                    let frame = *frame;
+                    self.desk
+                        .look(alloc, Look::Value { frame }, expression.as_slice())
                 }
             }
-            Asked::ExceptionInfo { thread } => self.fault_info(alloc, *thread),
+            Asked::ExceptionInfo { thread } => {
+                let thread = *thread;
+                self.desk.look(alloc, Look::Fault { thread }, &[])
+            },
             Asked::Disassemble {
                 reference,
                 offset,
@@ -216,15 +192,31 @@ impl<'r, R: Files> Adapter for Desk<'r, R> {
                     offset: offset.saturating_add(*instruction_offset),
                     count: *count,
                 };
-                self.disassemble(alloc, reference.as_slice(), span)
+                self.desk
+                    .look(alloc, Look::Code(span), reference.as_slice())
             }
-            Asked::Completions { text, column } => self.complete(alloc, text.as_slice(), *column),
-            Asked::Restart(launch) => self.restart(alloc, launch.as_ref()),
-            Asked::Terminate => self.terminate(alloc),
-            Asked::Disconnect => self.disconnect(alloc, phase),
-            Asked::Attach | Asked::SetVariable | Asked::SetExpression | Asked::Source => {
-                refusal(alloc, "this request is never carried out")
-            }
+            Asked::Completions { text, column } => {
+                let column = column_from(self.desk.manner.lines_start_at_1, *column);
+                self.desk
+                    .look(alloc, Look::Completions { column }, text.as_slice())
+            },
+            Asked::Restart(launch) => self.desk.restart(alloc, &self.disk, launch.as_ref()),
+            Asked::Terminate => self.desk.terminate(alloc, &self.disk),
+            Asked::Disconnect => self.desk.disconnect(alloc, &self.disk, phase),
+            Asked::Attach => never(alloc),
+            Asked::SetVariable => never(alloc),
+            Asked::SetExpression => never(alloc),
+            Asked::Source => never(alloc),
         }
+    }
+}
+
+// Which part of the elements of an array is asked for.
+fn part_of(start: Option<u64>, count: Option<u64>) -> Part
+    ensures { result ≡ part_of start count }
+{
+    Part {
+        start: start.unwrap_or(0),
+        count: count.unwrap_or(0),
     }
 }

@@ -38,6 +38,12 @@ impl<T: Drop> From<AllocFailed<T>> for NotDone {
 }
 
 impl From<NumberFault> for NotDone {
+    ghost use Rattle.std.specs.Prelude.{◌≡◌, true};
+    ghost use Rattle.lab_dap_session.specs.declared.numbered.NumberFault.TheVariants.{Exhausted};
+    ghost use Rattle.lab_dap_debuggee.specs.Debuggees.{is_refused};
+
+    ghost from_gives = { λ fault not_done. is_refused not_done ≡ true → fault ≡ Exhausted };
+
     fn from(fault: NumberFault) -> NotDone {
         match fault {
             NumberFault::Memory => NotDone::Memory,

@@ -1,7 +1,8 @@
 //! What an editor was told of a program.
 
-ghost use Rattle.std.specs.Prelude.{◌≡◌, [], Some, None, IfOk, OnOk, OnErr};
+ghost use Rattle.std.specs.Prelude.{◌≡◌, ◌^◌, [], Some, None, true, IfErr, IfOk, OnOk, OnErr};
 ghost use Rattle.lab_dap_session.specs.Numbers.{next_of};
+ghost use Rattle.lab_dap_debuggee.specs.Debuggees.{is_refused};
 ghost use Rattle.lab_dap_debuggee.specs.Given.{frame_of, key_of, with_thing};
 
 use crate::not_done::NotDone;
@@ -59,12 +60,13 @@ fn key_of(thing: &Thing) -> Option<FrameKey>
     }
 }
 
-/// Gives a thing the next number, from 1 on. The errors are out of memory, and that all numbers were given. They
-/// change nothing.
+/// Gives a thing the next number, from 1 on. The errors are out of memory, and that all numbers up to 2^31 - 1 were given.
+/// They change nothing.
 pub fn number(things: &mut Numbered<Thing>, thing: Thing) -> Result<u64, NotDone>
     ensures number { IfOk result (λ number. number ≡ next_of things.old) }
     ensures given { OnOk result (things.new ≡ with_thing things.old thing) }
     ensures unchanged_on_error { OnErr result (things.new ≡ things.old) }
+    ensures refused { IfErr result (λ why. is_refused why ≡ true → next_of things.old ≡ 2 ^ 31) }
 {
     Ok(things.add(thing)? as u64)
 }

@@ -1,0 +1,4 @@
+pub mod Hidings
+pub mod Showings
+pub mod Trials
+pub mod Reports
