@@ -21,6 +21,7 @@ use Rattle.om_team_worksharing.specs.Rows.{share_in}
 use Rattle.om_task.specs.Rules.{departs, rules_of, start_of}
 use Rattle.om_team_laws.specs.Criticals.{HasExclusion, IsInside}
 use Rattle.om_team_laws.specs.Reductions.{Combines}
+use Rattle.om_team_laws.specs.Statics.{AreAlike, BeginsOwn, IsOf}
 use Rattle.om_team_laws.specs.Tasks.{GoesOn, IsBegun, IsEnded, IsOrderly, task_at}
 use Rattle.om_team_laws.specs.Waits.{FindsAllThere}
 use Rattle.om_team_laws.specs.Works.{Begins, Gives, HasTaken, IsSharedOut, OpensSingle, given_out}
@@ -79,6 +80,24 @@ AllAreGivenOut = (program : Raw) (workers : ℕ) (s t : State) (l : Label) (stac
     → next_state (rules_of program workers) s l ≡ Some t
     → (given_out s stack.top.team.name share.region < given_out t stack.top.team.name share.region)
     ⊎ (share.count ≤ given_out s stack.top.team.name share.region)
+
+-- ---- loops with a static schedule (section 11.5.3)
+
+-- an iteration that a member begins lies in a chunk that the schedule gives it
+abbrev pub StaticIsOwn : Type 0
+StaticIsOwn = (program : Raw) (workers : ℕ) (ls : List Label) (s t : State) (team : List ℕ)
+    (region iteration worker : ℕ) → replay (rules_of program workers) ls ≡ Some s
+    → (b : BeginsOwn s t team region iteration worker) → (r : ℕ) × IsOf b.stack.top.team b.share r iteration
+
+-- No two steps of a run begin the same iteration: neither two of one member, nor two of members whose loops are alike.
+abbrev pub StaticOnce : Type 0
+StaticOnce = (program : Raw) (workers : ℕ) (first between : List Label) (l m : Label) (s t u v : State)
+    (team : List ℕ) (region iteration : ℕ) → replay (rules_of program workers) first ≡ Some s
+    → next_state (rules_of program workers) s l ≡ Some t → (b : BeginsOwn s t team region iteration l.worker)
+    → replay_from (rules_of program workers) t between ≡ Some u
+    → (c : BeginsOwn u v team region iteration m.worker)
+    → (b.stack.top.team.number ≡ c.stack.top.team.number)
+    ⊎ AreAlike b.stack.top.team c.stack.top.team b.share c.share → ⊥
 
 -- ---- `single` regions (section 11.1)
 

@@ -2,7 +2,10 @@
 
 ghost use Rattle.om_team_laws.specs.Laws.{StartExcludes, StepsExclude, RunsExclude, CriticalsExclude};
 ghost use Rattle.om_team_laws.specs.Laws.{RunsShareOut, GivenOnce, BegunOnce, AllAreGivenOut, SinglesRunOnce, SinglesAreRun};
+ghost use Rattle.om_team_laws.specs.Laws.{StaticIsOwn, StaticOnce};
 ghost use Rattle.om_team_laws.specs.Laws.{RunsAreOrderly, TasksGoOn, TasksBeginOnce, TasksEndOnce, BarriersWait, ReductionsCombine};
+
+use om_team::laws::partition;
 
 /// In the state in which a program starts no worker is inside of a critical region.
 pub fn start_excludes()
@@ -55,6 +58,20 @@ pub fn begun_once()
 pub fn all_are_given_out()
     ensures { AllAreGivenOut }
 {}
+
+/// Each iteration that a member begins of a loop with a static schedule lies in a chunk that the schedule gives it.
+pub fn static_is_own()
+    ensures { StaticIsOwn }
+{}
+
+/// No two steps of a run begin the same iteration of such a loop: neither two steps of one member, nor steps of two
+/// whose loops have one schedule and as many iterations, in teams of one size (OpenMP API 5.2, section 11.5.3).
+pub fn static_once()
+    ensures { StaticOnce }
+{
+    runs_are_orderly();
+    partition();
+}
 
 /// No two steps of a run open the same `single` region to run it (OpenMP API 5.2, section 11.1).
 pub fn singles_run_once()
