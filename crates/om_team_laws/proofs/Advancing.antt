@@ -1,5 +1,5 @@
 -- A chunk that a member takes is its own, and lies behind what it had.
-use Rattle.std.proofs.Common.{◌≡◌, sym, ◌∙◌, ap, ◌+◌, ◌≤◌, ◌<◌, arith, true, false, if◌then◌else◌, Some}
+use Rattle.std.proofs.Common.{◌≡◌, sym, ◌∙◌, ap, ◌+◌, arith, true, false, if◌then◌else◌, Some}
 use Rattle.std.specs.Prelude.{nat_eq, nat_le, ◌&&◌}
 use Rattle.om_state.specs.declared.control.Construct.TheVariants as construct
 use Rattle.om_state.specs.declared.control.Kind.{Kind}

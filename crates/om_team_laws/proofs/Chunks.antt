@@ -1,5 +1,5 @@
 -- The chunks of a member under a static schedule lie one behind another.
-use Rattle.std.proofs.Common.{◌≡◌, refl, sym, ◌∙◌, ap, subst, ℕ, ◌+◌, ◌*◌, ◌≤◌, ◌<◌, arith, Bool, true, false}
+use Rattle.std.proofs.Common.{◌≡◌, refl, sym, subst, ℕ, ◌+◌, ◌*◌, ◌≤◌, ◌<◌, arith, Bool, true, false}
 use Rattle.std.proofs.Common.{if◌then◌else◌, Option, None, Some}
 use Rattle.std.specs.Prelude.{min, nat_eq, nat_lt, ◌&&◌, IsSomeAnd}
 use Rattle.std.proofs.lemmas.Bool.{eqb-true, ltb-true}

@@ -1,5 +1,5 @@
 -- What opening, closing and replacing a region changes of the chances of a context, and that its chunks stay its own.
-use Rattle.std.proofs.Common.{◌≡◌, refl, sym, ◌∙◌, ap, subst, ℕ, ◌+◌, ◌≤◌, ◌<◌, arith, Bool, true, false, if◌then◌else◌}
+use Rattle.std.proofs.Common.{◌≡◌, refl, sym, ap, subst, ℕ, ◌+◌, ◌≤◌, ◌<◌, arith, Bool, true, false, if◌then◌else◌}
 use Rattle.std.proofs.Common.{Some, List, [], ◌∷◌, drop}
 use Rattle.std.specs.Prelude.{nat_eq, nat_le, nat_lt, ◌&&◌}
 use Rattle.std.proofs.lemmas.Bool.{eqb-true, leb-true, le-leb, ltb-true}

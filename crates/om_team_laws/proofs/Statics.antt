@@ -1,7 +1,7 @@
 -- An iteration of a loop with a static schedule is one of its member's chunks, and is begun once.
-use Rattle.std.proofs.Common.{◌≡◌, refl, sym, ◌∙◌, ap, subst, ℕ, suc, ◌+◌, ◌≤◌, ◌<◌, arith, Bool, true, false}
+use Rattle.std.proofs.Common.{◌≡◌, refl, sym, ◌∙◌, ap, subst, ℕ, ◌+◌, ◌≤◌, ◌<◌, arith, Bool, true, false}
 use Rattle.std.proofs.Common.{if◌then◌else◌, Option, Some, List, [], ◌∷◌, ◌++◌, drop, ◌⊎◌, inl, inr, ⊎_elim, append_assoc}
-use Rattle.std.specs.Prelude.{nat_eq, nat_le, nat_lt, ◌&&◌}
+use Rattle.std.specs.Prelude.{nat_eq, nat_le, ◌&&◌}
 use Rattle.std.proofs.lemmas.Bool.{cases_lt, eq-eqb, leb-true, le-leb}
 use Rattle.om_foot.specs.Below.{both_true, two_true}
 use Rattle.om_code.specs.declared.raw.Raw.{Raw}
@@ -11,7 +11,6 @@ use Rattle.om_state.specs.declared.control.Control.TheVariants.{Idle, Running}
 use Rattle.om_state.specs.declared.control.Frame.{Frame}
 use Rattle.om_state.specs.declared.control.Kind.TheVariants as kind
 use Rattle.om_state.specs.declared.control.Share.{Share}
-use Rattle.om_state.specs.declared.control.Stack.{Stack}
 use Rattle.om_state.specs.declared.control.Team.{Team}
 use Rattle.om_state.specs.declared.step.Label.{Label}
 use Rattle.om_state.specs.declared.value.Ready.{Ready}
@@ -24,12 +23,11 @@ use Rattle.om_team.specs.Teams.{member}
 use Rattle.om_task.specs.Rules.{first_context, rules_of, start_of}
 use Rattle.om_task.specs.Tasks.{task_context}
 use Rattle.om_team_laws.specs.Contexts.{contexts_at, contexts_of}
-use Rattle.om_team_laws.specs.Statics.{AreAlike, AreOwned, BeginsOwn, HasOwnChunk, IsOf, chances, open_waits, size_in, to_meet, wait}
+use Rattle.om_team_laws.specs.Statics.{AreAlike, AreOwned, BeginsOwn, HasOwnChunk, IsOf, chances, open_waits, size_in, to_meet}
 use Rattle.om_team_laws.specs.Statics.{waits}
 use Rattle.om_team_laws.specs.Tasks.{AreDistinct, Has, IsOrderly, task_at}
-use Rattle.om_team_laws.specs.Works.{is_dynamic}
 use Rattle.om_team_laws.proofs.Chunks.{lies_sized}
-use Rattle.om_team_laws.proofs.Coming.{Comes, Follows, HasGoneOn, IsNewMember, IsNewTask, IsNext, Moves, step_moves}
+use Rattle.om_team_laws.proofs.Coming.{Comes, Follows, IsNext, Moves, step_moves}
 use Rattle.om_team_laws.proofs.Names.{nothing_behind}
 use Rattle.om_team_laws.proofs.Replays.{rest_keeps}
 use Rattle.om_team_laws.proofs.TaskCases.{step_goes_on}
