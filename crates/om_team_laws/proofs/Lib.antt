@@ -27,4 +27,5 @@ mod TaskCases
 mod Stages
 mod Waiting
 mod Asking
+mod Awaiting
 mod Combining

@@ -2,7 +2,7 @@
 
 ghost use Rattle.om_team_laws.specs.Laws.{StartExcludes, StepsExclude, RunsExclude, CriticalsExclude};
 ghost use Rattle.om_team_laws.specs.Laws.{RunsShareOut, GivenOnce, BegunOnce, AllAreGivenOut, SinglesRunOnce, SinglesAreRun};
-ghost use Rattle.om_team_laws.specs.Laws.{StaticIsOwn, StaticOnce};
+ghost use Rattle.om_team_laws.specs.Laws.{StaticIsOwn, StaticOnce, TaskwaitsWait, GroupsWait};
 ghost use Rattle.om_team_laws.specs.Laws.{RunsAreOrderly, TasksGoOn, TasksBeginOnce, TasksEndOnce, BarriersWait, ReductionsCombine};
 
 use om_team::laws::partition;
@@ -116,6 +116,17 @@ pub fn tasks_end_once()
 /// than this one has passed, and where the count of unfinished tasks of its phase is 0 (OpenMP API 5.2, section 15.3).
 pub fn barriers_wait()
     ensures { BarriersWait }
+{}
+
+/// A task goes on from a `taskwait` only where the count of its unfinished children is 0 (OpenMP API 5.2, section 15.5).
+pub fn taskwaits_wait()
+    ensures { TaskwaitsWait }
+{}
+
+/// A task closes a task group only where the count of the unfinished tasks of this group is 0 (OpenMP API 5.2, section
+/// 15.4).
+pub fn groups_wait()
+    ensures { GroupsWait }
 {}
 
 /// A step of a reduction after which its worker runs on combines the copy with the original, and changes no other

@@ -12,7 +12,8 @@
 //! - `proofs/Coming` says of each context behind a step where it comes from, case by case too. So what is true of each
 //!   context alone needs no further case: `proofs/Statics` is about loops with a static schedule. `proofs/Owned`,
 //!   `Chunks` and `Advancing` say what a context keeps as its regions open, close and go on.
-//! - `specs/Waits` says what a member finds that goes on from a barrier, and `proofs/Waiting` reads it off its row.
+//! - `specs/Waits` says what a member finds that goes on from a barrier, and a task from `taskwait` or `taskgroup`.
+//!   `proofs/Waiting` and `Awaiting` read it off their rows.
 //!   `proofs/Asking` reads off the row of GRAB what a member gets that asks for a chunk. `specs/Reductions` and
 //!   `proofs/Combining` are about RED in the same way.
 //! - A new row has a lemma in `TeamRows` or `ShareRows`, and a new instruction a line in `Walk`.
