@@ -28,4 +28,8 @@ mod Stages
 mod Waiting
 mod Asking
 mod Awaiting
+mod Counted
+mod Naming
+mod Sets
+mod Children
 mod Combining

@@ -10,6 +10,7 @@ use Rattle.om_code.specs.declared.instruction.Sharing.TheVariants as sharings
 use Rattle.om_code.specs.declared.instruction.Task.TheVariants as taskings
 use Rattle.om_code.specs.declared.raw.Raw.{Raw}
 use Rattle.om_code.specs.Places.{instruction_at}
+use Rattle.om_code.specs.Validity.{IsValid}
 use Rattle.om_state.specs.declared.control.Control.TheVariants.{Running}
 use Rattle.om_state.specs.declared.control.Share.{Share}
 use Rattle.om_state.specs.declared.control.Stack.{Stack}
@@ -22,6 +23,7 @@ use Rattle.om_team_serial.specs.Objects.{innermost}
 use Rattle.om_team_worksharing.specs.Rows.{share_in}
 use Rattle.om_task.specs.Rules.{departs, rules_of, start_of}
 use Rattle.om_task.specs.Tasks.{innermost_group}
+use Rattle.om_team_laws.specs.Children.{HasChildren, IsChild}
 use Rattle.om_team_laws.specs.Criticals.{HasExclusion, IsInside}
 use Rattle.om_team_laws.specs.Reductions.{Combines}
 use Rattle.om_team_laws.specs.Statics.{AreAlike, BeginsOwn, IsOf}
@@ -156,6 +158,21 @@ BarriersWait = (program : Raw) (workers : ℕ) (s t : State) (l : Label) (stack 
     → s (obj.Control l.worker) ≡ Control (Running stack) → l.choice ≡ Next
     → departs (instruction_at program stack.top.frame.body stack.top.frame.next) ≡ true
     → next_state (rules_of program workers) s l ≡ Some t → FindsAllThere s stack.top
+
+-- ---- children (sections 12.5 and 15.5)
+
+-- in each state of a run of a valid program the count of a task's children is how many of them are unfinished
+abbrev pub ChildrenAreCounted : Type 0
+ChildrenAreCounted = (program : Raw) (workers : ℕ) (ls : List Label) (s : State) → IsValid program
+    → replay (rules_of program workers) ls ≡ Some s → HasChildren s
+
+-- so a task goes on from a `taskwait` only where none of its children is unfinished
+abbrev pub ChildrenHaveEnded : Type 0
+ChildrenHaveEnded = (program : Raw) (workers : ℕ) (ls : List Label) (s t : State) (l : Label) (stack : Stack)
+    (name : List ℕ) → IsValid program → replay (rules_of program workers) ls ≡ Some s
+    → s (obj.Control l.worker) ≡ Control (Running stack) → l.choice ≡ Next
+    → instruction_at program stack.top.frame.body stack.top.frame.next ≡ Some (i.Task taskings.WaitEnd)
+    → next_state (rules_of program workers) s l ≡ Some t → IsChild s stack.top.task name → ⊥
 
 -- ---- waiting for tasks (sections 15.4 and 15.5)
 

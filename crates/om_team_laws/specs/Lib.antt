@@ -4,5 +4,6 @@ pub mod Works
 pub mod Statics
 pub mod Tasks
 pub mod Waits
+pub mod Children
 pub mod Reductions
 pub mod Laws

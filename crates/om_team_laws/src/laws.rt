@@ -2,9 +2,11 @@
 
 ghost use Rattle.om_team_laws.specs.Laws.{StartExcludes, StepsExclude, RunsExclude, CriticalsExclude};
 ghost use Rattle.om_team_laws.specs.Laws.{RunsShareOut, GivenOnce, BegunOnce, AllAreGivenOut, SinglesRunOnce, SinglesAreRun};
+ghost use Rattle.om_team_laws.specs.Laws.{ChildrenAreCounted, ChildrenHaveEnded};
 ghost use Rattle.om_team_laws.specs.Laws.{StaticIsOwn, StaticOnce, TaskwaitsWait, GroupsWait};
 ghost use Rattle.om_team_laws.specs.Laws.{RunsAreOrderly, TasksGoOn, TasksBeginOnce, TasksEndOnce, BarriersWait, ReductionsCombine};
 
+use om_task::laws::born_below;
 use om_team::laws::partition;
 
 /// In the state in which a program starts no worker is inside of a critical region.
@@ -117,6 +119,22 @@ pub fn tasks_end_once()
 pub fn barriers_wait()
     ensures { BarriersWait }
 {}
+
+/// In each state of a run of a valid program the count of a task's children is how many of them are unfinished: made, and
+/// not ended (OpenMP API 5.2, sections 12.5 and 15.5).
+pub fn children_are_counted()
+    ensures { ChildrenAreCounted }
+{
+    born_below();
+}
+
+/// So a task goes on from a `taskwait` only where none of its children is unfinished.
+pub fn children_have_ended()
+    ensures { ChildrenHaveEnded }
+{
+    children_are_counted();
+    taskwaits_wait();
+}
 
 /// A task goes on from a `taskwait` only where the count of its unfinished children is 0 (OpenMP API 5.2, section 15.5).
 pub fn taskwaits_wait()
