@@ -1,7 +1,7 @@
 -- The count of a task's children is how many of them are unfinished: each step keeps that.
 use Rattle.std.proofs.Common.{◌≡◌, refl, sym, ◌∙◌, ap, subst, ℕ, suc, ◌+◌, ℤ, pos, negsuc, Bool, true, false, cond, arith}
 use Rattle.std.proofs.Common.{if◌then◌else◌, Option, None, Some, List, [], ◌∷◌, ◌++◌, length, take, reverse, option_map, ◌⊎◌}
-use Rattle.std.proofs.Common.{inl, inr, ⊎_elim, slice_get, nat_le, unwrap_or}
+use Rattle.std.proofs.Common.{inl, inr, slice_get, nat_le, unwrap_or}
 use Rattle.std.specs.Prelude.{All, IsSomeAnd, nat_eq, option_and_then}
 use Rattle.std.specs.Cmp.Lexicographic.{pointwise}
 use Rattle.std.proofs.lemmas.Bool.{leb-true}
@@ -43,7 +43,7 @@ use Rattle.om_state.specs.declared.value.Task as tasks
 use Rattle.om_state.specs.declared.value.Task.TheVariants as task
 use Rattle.om_state.specs.declared.value.Val.TheVariants as value
 use Rattle.om_state.specs.Rules.{control_access, next_state, replay_from, state_after_outcome, step_at}
-use Rattle.om_state.specs.State.{State, state_after, updated, values_read}
+use Rattle.om_state.specs.State.{State, updated, values_read}
 use Rattle.om_state.specs.Values.{control_in, count_in, task_in, value_plus}
 use Rattle.om_team_serial.specs.declared.row.Row.{Row}
 use Rattle.om_team_serial.specs.declared.row.Row.TheVariants as row
@@ -51,21 +51,21 @@ use Rattle.om_team_serial.specs.Objects.{add, deaths, event, events, given_cells
 use Rattle.om_team_serial.specs.Rows.{Asked}
 use Rattle.om_team_serial.specs.Sites.{Site, body_of, launch, line, site, slots}
 use Rattle.om_task.specs.declared.task.Making.{Making}
-use Rattle.om_task.specs.Rows.{end_row_of, ended_row, given_row, made_names, made_row, ready_for, spawn_row, started, started_row}
+use Rattle.om_task.specs.Rows.{end_row_of, ended_row, given_row, made_names, made_row, ready_for, started, started_row}
 use Rattle.om_task.specs.Rows.{ended_names, ended_updates, made_updates}
 use Rattle.om_task.specs.Rules.{admits_all, choice_row, further_in, leaving, outcome_after, row_in, rules_of, start_of}
 use Rattle.om_task.specs.Table.{row_of}
-use Rattle.om_task.specs.Tasks.{born, counts, group_count, group_of, ready_of, task_context}
+use Rattle.om_task.specs.Tasks.{born, group_count, group_of, ready_of, task_context}
 use Rattle.om_team_laws.specs.Children.{HasChildren, IsChild, IsIn, is_unfinished}
 use Rattle.om_team_laws.specs.Contexts.{contexts_at, contexts_of}
 use Rattle.om_team_laws.specs.Tasks.{Has, IsOrderly, task_at}
 use Rattle.om_team_laws.proofs.Behind.{behind_put, with_control}
 use Rattle.om_team_laws.proofs.Cases.{behind}
-use Rattle.om_team_laws.proofs.Counted.{AreUncounted, added_behind, given_uncounted, own_uncounted, uncounted, uncounted_append}
+use Rattle.om_team_laws.proofs.Counted.{AreUncounted, added_behind, given_uncounted, own_uncounted, uncounted}
 use Rattle.om_team_laws.proofs.Naming.{IsPlain, plain_names}
 use Rattle.om_team_laws.proofs.Names.{same_starts, starts_itself}
 use Rattle.om_team_laws.proofs.Replays.{rest_keeps}
-use Rattle.om_team_laws.proofs.Sets.{Changes, ChangesChild, IsAsBefore, changes_keep}
+use Rattle.om_team_laws.proofs.Sets.{Changes, changes_keep}
 use Rattle.om_team_laws.proofs.TaskCases.{start_orderly, step_goes_on}
 use Rattle.om_team_laws.proofs.TaskSteps.{born_is}
 use Rattle.om_team_laws.proofs.Traced.{AreUntraced, counts_untraced, given_untraced, none_left, own_untraced, untraced_append}

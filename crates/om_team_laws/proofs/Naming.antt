@@ -1,84 +1,48 @@
 -- The row of each instruction but SPAWN and TEND names no task, and no count of children that it may change.
-use Rattle.om_code.specs.Arithmetic.{combine}
 use Rattle.om_code.specs.Frames.{Touch, act, int_at}
-use Rattle.om_code.specs.Places.{instruction_at}
 use Rattle.om_code.specs.Printing.{ints_on}
 use Rattle.om_code.specs.declared.act.Turn.{Turn}
-use Rattle.om_code.specs.declared.frame.Fault.{Fault}
 use Rattle.om_code.specs.declared.frame.Operand.{Operand}
 use Rattle.om_code.specs.declared.frame.Operand.TheVariants.{Int, NoValue}
-use Rattle.om_code.specs.declared.instruction.Barrier.{Barrier}
 use Rattle.om_code.specs.declared.instruction.Instr.{Instr}
 use Rattle.om_code.specs.declared.instruction.LoopForm.{LoopForm}
-use Rattle.om_code.specs.declared.instruction.Place.{Place}
-use Rattle.om_code.specs.declared.instruction.Reduction.{Reduction}
 use Rattle.om_code.specs.declared.instruction.Schedule.{Schedule}
-use Rattle.om_code.specs.declared.instruction.Serial.{Serial}
 use Rattle.om_code.specs.declared.raw.Body.{Body}
 use Rattle.om_code.specs.declared.raw.Raw.{Raw}
 use Rattle.om_code.specs.declared.raw.Slot.{Slot}
-use Rattle.om_foot.specs.Names.{above}
-use Rattle.om_foot.specs.declared.footprint.Access.{Access}
-use Rattle.om_state.specs.Edits.{value_given}
 use Rattle.om_state.specs.OpenShares.{is_loop}
-use Rattle.om_state.specs.Rules.{control_access, next_state, state_after_outcome, step_at}
-use Rattle.om_state.specs.State.{State, values_read}
-use Rattle.om_state.specs.Values.{cell_in, count_in, task_in, holder_in, number_in, control_in}
 use Rattle.om_state.specs.declared.control.Construct.{Construct}
 use Rattle.om_state.specs.declared.control.Context.{Context}
-use Rattle.om_state.specs.declared.control.Control.TheVariants.{Idle, Running, Faulted, Ended}
-use Rattle.om_state.specs.declared.control.Edit.TheVariants.{Go, BeginFrame, EndFrame, Open, Close, CountBirth}
-use Rattle.om_state.specs.declared.control.Edit.TheVariants.{CountPhase, End, Replace}
 use Rattle.om_state.specs.declared.control.Frame.{Frame}
 use Rattle.om_state.specs.declared.control.Kind.{Kind}
 use Rattle.om_state.specs.declared.control.Share.{Share}
 use Rattle.om_state.specs.declared.control.Stack.{Stack}
-use Rattle.om_state.specs.declared.control.Team.{Team}
-use Rattle.om_state.specs.declared.step.Choice.{Choice}
-use Rattle.om_state.specs.declared.step.Choice.TheVariants.{Next, Start}
-use Rattle.om_state.specs.declared.step.Label.{Label}
-use Rattle.om_state.specs.declared.step.Update.{Update}
-use Rattle.om_task.specs.Rows.{closed, closed_row, end_row_of, ended_row, group_begin_row, group_end_row}
-use Rattle.om_task.specs.Rows.{made_row, opened_row, ready_for, spawn_row, start_row, started, started_row}
-use Rattle.om_task.specs.Rows.{task_end_row, task_yield_row, wait_begin_row, wait_end_row, waited}
-use Rattle.om_task.specs.Rules.{admits_all, choice_row, further_in, leaving, outcome_after, row_in, rules_of}
+use Rattle.om_task.specs.Rows.{closed_row}
+use Rattle.om_task.specs.Rows.{opened_row}
 use Rattle.om_task.specs.Table.{row_of}
-use Rattle.om_task.specs.Tasks.{born, group_of, innermost_group, ready_of}
-use Rattle.om_task.specs.declared.task.Making.{Making}
-use Rattle.om_team.specs.Rows.{begin_row, fork_row, forked, named_row, sized_row, team_of, team_row}
+use Rattle.om_task.specs.Tasks.{born, innermost_group}
+use Rattle.om_team.specs.Rows.{fork_row, named_row, sized_row, team_of}
 use Rattle.om_team.specs.Table.{fork_takes}
-use Rattle.om_team.specs.Teams.{first_busy, member_cells, workers_from}
-use Rattle.om_team_serial.specs.Begins.{first_frame}
-use Rattle.om_team_serial.specs.Ends.{finished, finished_row, finish_row, value_of}
-use Rattle.om_team_serial.specs.Objects.{events, group_name, homes_in, innermost, object_of, own_cells, read, write}
+use Rattle.om_team_serial.specs.Ends.{finished_row, value_of}
+use Rattle.om_team_serial.specs.Objects.{innermost, own_cells}
 use Rattle.om_team_serial.specs.Objects.{is_misplaced}
-use Rattle.om_team_serial.specs.Rows.{Asked, goes, is_zero}
-use Rattle.om_team_serial.specs.SerialRows.{call_row, cells_of_slot, number_row, put_combined, put_of, reduce_row}
-use Rattle.om_team_serial.specs.SerialRows.{reduced, return_row, serial_row, slots_in, touch_row, unsets}
-use Rattle.om_team_serial.specs.Sites.{Site, body_of, launch, line, lock_of, next, operands, site, slots, targets_of}
+use Rattle.om_team_serial.specs.Rows.{Asked}
+use Rattle.om_team_serial.specs.SerialRows.{call_row}
+use Rattle.om_team_serial.specs.SerialRows.{return_row, slots_in, touch_row}
+use Rattle.om_team_serial.specs.Sites.{Site, body_of, launch, next, operands, site, slots, targets_of}
 use Rattle.om_team_serial.specs.declared.row.Launch.{Launch}
-use Rattle.om_team_serial.specs.declared.row.Row.{Row}
-use Rattle.om_team_worksharing.specs.Barriers.{is_open}
-use Rattle.om_team_worksharing.specs.Chunks.{chunk_within, static_chunk}
-use Rattle.om_team_worksharing.specs.Rows.{arrive_row, depart_row, departed, is_misplaced_barrier, leave_row, left}
-use Rattle.om_team_worksharing.specs.Rows.{left_row, ask_critical_row, begun, chosen_row, chunk_row, edits}
-use Rattle.om_team_worksharing.specs.Rows.{end_masked_row, end_worksharing_row, enter_critical_row, filtered_row}
-use Rattle.om_team_worksharing.specs.Rows.{grab_row, is_critical, is_right_form, is_section, iterate_row}
-use Rattle.om_team_worksharing.specs.Rows.{iteration_row, leave_critical_row, lock_row, loop_of, loop_row, masked_row}
-use Rattle.om_team_worksharing.specs.Rows.{open_row, opened, pick_row, section_row, sections_row, share_in}
-use Rattle.om_team_worksharing.specs.Rows.{single_row, taken_row}
-use Rattle.om_team_worksharing.specs.declared.chunk.Chunk.{Chunk}
-use Rattle.std.proofs.Common.{◌≡◌, refl, ℕ, zero, suc, ◌+◌, ◌-◌, ◌≤◌, ℤ, pos, negsuc, arith, Bool, true, false}
-use Rattle.std.proofs.Common.{if◌then◌else◌, Option, None, Some, List, [], ◌∷◌, ◌++◌, length, ap, option_map}
-use Rattle.std.proofs.lemmas.Bool.{eqb-true}
-use Rattle.std.specs.Cmp.Lexicographic.{pointwise}
+use Rattle.om_team_worksharing.specs.Rows.{is_misplaced_barrier, leave_row}
+use Rattle.om_team_worksharing.specs.Rows.{left_row, chunk_row}
+use Rattle.om_team_worksharing.specs.Rows.{end_masked_row, end_worksharing_row, filtered_row}
+use Rattle.om_team_worksharing.specs.Rows.{grab_row, is_critical, is_right_form, iterate_row}
+use Rattle.om_team_worksharing.specs.Rows.{loop_of, loop_row, masked_row}
+use Rattle.om_team_worksharing.specs.Rows.{open_row, opened, pick_row, share_in}
+use Rattle.std.proofs.Common.{refl, ℕ, zero, suc, ◌-◌, ℤ, pos, negsuc, Bool, true, false}
+use Rattle.std.proofs.Common.{if◌then◌else◌, Option, None, Some, List, [], ◌∷◌, length, option_map}
 use Rattle.std.specs.Ordering.{int_eq}
-use Rattle.std.specs.Prelude.{Result, Ok, Err, nat_eq, nat_le, nat_lt, unwrap_or, slice_get}
+use Rattle.std.specs.Prelude.{nat_le, nat_lt}
 use Rattle.om_code.specs.Frames as touch
-use Rattle.om_code.specs.declared.act.Turn.TheVariants as turn
 use Rattle.om_code.specs.declared.frame.Cell as cells
-use Rattle.om_code.specs.declared.frame.Cell.TheVariants as cell
-use Rattle.om_code.specs.declared.frame.Fault.TheVariants as fault
 use Rattle.om_code.specs.declared.instruction.Function.TheVariants as calls
 use Rattle.om_code.specs.declared.instruction.Instr.TheVariants as i
 use Rattle.om_code.specs.declared.instruction.Place.TheVariants as place
@@ -87,16 +51,9 @@ use Rattle.om_code.specs.declared.instruction.Schedule.TheVariants as schedule
 use Rattle.om_code.specs.declared.instruction.Sharing.TheVariants as sharings
 use Rattle.om_code.specs.declared.instruction.Task.TheVariants as taskings
 use Rattle.om_code.specs.declared.instruction.Team.TheVariants as teams
-use Rattle.om_events.specs.declared.kind.TaskStatus as statuses
-use Rattle.om_foot.specs.declared.object.Obj.TheVariants as obj
 use Rattle.om_state.specs.declared.control.Construct.TheVariants as construct
-use Rattle.om_state.specs.declared.control.Control as controls
 use Rattle.om_state.specs.declared.control.Kind.TheVariants as kind
 use Rattle.om_state.specs.declared.control.Sharing.TheVariants as sharing
-use Rattle.om_state.specs.declared.step.Blocked.TheVariants as blocked
-use Rattle.om_state.specs.declared.value.Task as tasks
-use Rattle.om_state.specs.declared.value.Task.TheVariants as task
-use Rattle.om_team_serial.specs.declared.row.Row.TheVariants as row
 use Rattle.om_foot.specs.declared.footprint.Mode.TheVariants as mode
 use Rattle.om_team_laws.proofs.Counted.{AreUncounted, barrier_uncounted, given_uncounted, members_uncounted}
 use Rattle.om_team_laws.proofs.Counted.{object_uncounted, own_uncounted, slot_uncounted, uncounted_append, workers_uncounted}
