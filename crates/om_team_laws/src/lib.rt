@@ -1,7 +1,7 @@
 //! Laws of what OpenMP promises of critical and worksharing regions, reductions, tasks and barriers.
 //!
-//! It has laws alone: no program runs them, and no crate of a program depends on this one. Each is true of the runs of every
-//! program, valid or not. Those of children ask for a valid one.
+//! It has laws alone: no program runs them, and no crate of a program depends on this one. Each is true of the runs of
+//! every program, valid or not. Those of children ask for a valid one.
 //!
 //! - `specs/Criticals` says who is inside of the critical regions of a lock. `specs/Works` says what of a worksharing
 //!   region is given out and who has it, `specs/Tasks` how tasks go on, and `specs/Contexts` which contexts a worker has.
