@@ -2,7 +2,7 @@
 
 Each answers edits of the pieces of a text: the first piece, how many more are taken, the rule, and what is written.
 """
-from port import GAPS, WORDKINDS, begins, behind, cls, first, is_code, sign
+from port import GAPS, WORDKINDS, begins, behind, cls, cut, first, is_code, sign
 
 SPACES = ("Space", "Comment")
 WHOLE = ("Int", "Signed", "Long", "Char", "Short", "Unsigned", "Truth")
@@ -169,7 +169,10 @@ def name_edits(pieces):
         elif pieces[at][0] == "Word" and text.before[at].line in ("Fresh", "Code", "Omp") and pieces[at][2] in names:
             edits.append((at, 0, "Use", names[pieces[at][2]]))
         at += 1
-    return edits
+    # cpp reads a text again where it is used, with names that are defined behind it.
+    order = {name: i for i, name in enumerate(names)}
+    tangled = any(order.get(it, -1) > order[name] for name in names for _, _, it in cut(names[name]))
+    return [] if tangled else edits
 
 
 def values(text, at):
