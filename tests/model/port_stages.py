@@ -215,6 +215,17 @@ def stores(name, found):
     return b";".join(b" " + name + b"[%d] =" % i + b"".join(b" " + it for it in value) for i, value in enumerate(found))
 
 
+def is_static(text, at):
+    """Whether `static` stands in the declaration before a piece."""
+    while at > 0:
+        at -= 1
+        if text.classes[at] in (("Sign", "Semicolon"), ("Sign", "OpenBrace"), ("Sign", "CloseBrace")):
+            return False
+        if text.classes[at] == ("Storage", "Static") and is_code(text.before[at].line):
+            return True
+    return False
+
+
 def list_edits(pieces):
     """Lists of values."""
     text = Text(pieces)
@@ -224,7 +235,8 @@ def list_edits(pieces):
     while at < len(pieces):
         context, one, name = text.before[at], text.classes[at], pieces[at][2]
         declared = is_code(context.line) and one == ("Word", "Other") and context.typed and context.parens == 0
-        found = values(text, at) if free and declared else None
+        once = declared and context.braces and is_static(text, at)
+        found = values(text, at) if free and declared and not once else None
         begins_main = context.in_main and context.braces == 0 and sign(one, "OpenBrace")
         if found and (context.braces or not filled):
             size, length, parts = found
