@@ -41,7 +41,7 @@ pub fn name_marks(alloc: Global, pieces: &[Piece]) -> AllocResult<Named>
     ensures marks { IfOk result (λ found. found.marks.items ≡ name_marks pieces.now) }
 {
     let sure = is_sure(alloc, pieces)?;
-    named(alloc, sure, pieces)
+    names_and_marks(alloc, sure, pieces)
 }
 
 // Whether no condition of `cpp`, and no name behind a text that has it, may decide what names stand for.
@@ -51,13 +51,13 @@ fn is_sure(alloc: Global, pieces: &[Piece]) -> AllocResult<bool>
     if has_condition(pieces) {
         return Ok(false);
     }
-    let found = named(alloc, true, pieces)?;
+    let found = names_and_marks(alloc, true, pieces)?;
     let tangled = are_tangled(alloc, found.names.as_slice())?;
     Ok(!tangled)
 }
 
 // The names of a source that are sure or not, and where they stand.
-fn named(alloc: Global, sure: bool, pieces: &[Piece]) -> AllocResult<Named>
+fn names_and_marks(alloc: Global, sure: bool, pieces: &[Piece]) -> AllocResult<Named>
     ensures names { IfOk result
         (λ found. found.names ≡ names_from [] (first_spot sure) pieces.now) }
     ensures marks { IfOk result

@@ -1,6 +1,6 @@
 use Rattle.std.proofs.Common.{◌≡◌, ◌++◌, [], drop}
 use Rattle.lab_port_names.specs.Uses.{first_spot, marks_from, names_from}
-use Rattle.lab_port_names.proofs.uses.named.Given as goal
+use Rattle.lab_port_names.proofs.uses.names_and_marks.Given as goal
 
 abbrev pub invariant-loop-i : goal.invariant-loop-i
 invariant-loop-i l = record {
