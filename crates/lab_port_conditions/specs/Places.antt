@@ -47,7 +47,7 @@ abbrev pub begins_line : Context → Piece → Bool
 begins_line context piece = is_fresh context.line && is_hash (class_of piece)
 
 -- what the line is whose `#` stands before these pieces
-abbrev pub kind_here : List Meaning → Spot → List Piece → Kind
+unfoldable pub kind_here : List Meaning → Spot → List Piece → Kind
 kind_here names spot rest = kind_of spot.state.has_unknown names (line_of rest)
 
 -- what the conditions leave behind a piece

@@ -92,6 +92,7 @@ fn spot_behind(names: &[Meaning], spot: Spot, mark: Mark, piece: &Piece, rest: &
 }
 
 // What the line is whose `#` stands before these pieces.
+#[tactic(auto, unfolding(crate::specs::Places::kind_here))]
 fn kind_here(names: &[Meaning], spot: Spot, rest: &[Piece]) -> Kind
     ensures { result ≡ kind_here names.now spot rest.now }
 {
