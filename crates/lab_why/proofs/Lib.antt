@@ -1,0 +1,2 @@
+mod Accessing
+mod Losing
