@@ -90,7 +90,7 @@ fn break_line(command: &Command) -> Option<u64>
 }
 
 /// The variable that a word names, as behind `watch`.
-pub(crate) fn variable_in(alloc: Global, workers: u8, word: &[u8]) -> AllocResult<Option<Variable>>
+pub fn variable_in(alloc: Global, workers: u8, word: &[u8]) -> AllocResult<Option<Variable>>
     ensures { IfOk result (λ variable. variable ≡ variable_in workers word.now) }
 {
     let request = request_with(alloc, workers, b"watch ", word)?;

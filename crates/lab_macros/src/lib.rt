@@ -3,7 +3,7 @@
 //! - `expanded` goes over the lines, and `said` says what each is: a comment, a command that is repeated, an `until`,
 //!   or a command of ompback.
 //! - `until` asks a book where its worker comes to a line, or changes a variable; `walk` counts the steps up to there.
-//! - `asked` takes words as the commands of ompback take them.
+//! - `asked` takes words as the commands of ompback take them; `variable_in` is for others too.
 #![tactic(auto)]
 
 mod asked;
@@ -12,4 +12,5 @@ mod said;
 mod until;
 mod walk;
 
+pub use asked::variable_in;
 pub use expanded::{Expanded, Place, expand};
