@@ -1,6 +1,8 @@
 -- The accesses of an object, one step more at a time.
-use Rattle.std.proofs.Common.{◌≡◌, refl, sym, ◌∙◌, ap, ℕ, Bool, true, false, cond, ◌||◌, Option, None, Some, List, [], ◌∷◌, ◌++◌}
-use Rattle.std.proofs.Common.{append_assoc, arith, drop, drop-cons, get_or, is_some, length, suc, take, ◌+◌, ◌-◌, ◌<◌, ◌≤◌}
+use Rattle.std.proofs.Common.{◌≡◌, refl, sym, ◌∙◌, ap, ℕ, Bool, true, false, cond, ◌||◌, Option, None, Some}
+use Rattle.std.proofs.Common.{List, [], ◌∷◌, ◌++◌}
+use Rattle.std.proofs.Common.{append_assoc, arith, drop, drop-cons, get_or, is_some, length, suc, take, ◌+◌}
+use Rattle.std.proofs.Common.{◌-◌, ◌<◌, ◌≤◌}
 use Rattle.std.proofs.lemmas.List.{append-nil, drop_all, take_more}
 use Rattle.std.specs.Prelude.{filter, map}
 use Rattle.std.specs.Option.{option_or}
@@ -19,7 +21,8 @@ use Rattle.lab_graph.specs.declared.traced.Traced.{Traced}
 use Rattle.lab_graph.specs.Pictures.{touched}
 use Rattle.lab_why.specs.declared.accesses.AccessStep.{AccessStep}
 use Rattle.lab_why.specs.declared.accesses.Accessed.{Accessed}
-use Rattle.lab_why.specs.Accesses.{AreOfTouching, accesses_of, is_touched, last_that, mode_at, mode_of, serials_in, with_access, with_accesses}
+use Rattle.lab_why.specs.Accesses.{AreOfTouching, accesses_of, is_touched, last_that, mode_at, mode_of, serials_in}
+use Rattle.lab_why.specs.Accesses.{with_access, with_accesses}
 
 -- ---- the first of two answers
 
@@ -38,7 +41,8 @@ or_assoc (Some x) b c = refl
 -- ---- how a step touches an object
 
 -- among accesses, and others behind them
-pub mode_behind : (q : Obj) (xs ys : List Access) → mode_at q (xs ++ ys) ≡ option_or (mode_at q xs) (mode_at q ys)
+pub mode_behind : (q : Obj) (xs ys : List Access)
+    → mode_at q (xs ++ ys) ≡ option_or (mode_at q xs) (mode_at q ys)
 mode_behind q [] ys = refl
 mode_behind q (x ∷ xs) ys =
     ap (λ o. cond (obj_eq x.object q) (Some x.mode) o) (mode_behind q xs ys) ∙ either (obj_eq x.object q)

@@ -1,5 +1,6 @@
 -- The last store that is lost, from the last access on.
-use Rattle.std.proofs.Common.{◌≡◌, refl, sym, ◌∙◌, ap, true, false, ℕ, ◌-◌, ◌<◌, ◌≤◌, get_or, is_some, length, take, Option, None, Some, List, [], ◌∷◌, ◌++◌}
+use Rattle.std.proofs.Common.{◌≡◌, refl, sym, ◌∙◌, ap, true, false, ℕ, ◌-◌, ◌<◌, ◌≤◌, get_or, is_some, length}
+use Rattle.std.proofs.Common.{take, Option, None, Some, List, [], ◌∷◌, ◌++◌}
 use Rattle.std.proofs.Common.{append_assoc}
 use Rattle.std.proofs.lemmas.List.{append-nil}
 use Rattle.std.specs.Option.{option_or}
@@ -11,7 +12,8 @@ use Rattle.lab_why.proofs.Accessing.{or_assoc, or_found, or_passed, taken}
 -- one access more
 pub lost_push : (before xs : List Accessed) (a : Accessed) → lost_behind before (xs ++ a ∷ [])
     ≡ option_or (lost_to (before ++ xs) a.step) (lost_behind before xs)
-lost_push before [] a = nothing (lost_to before a.step) ∙ ap (λ l. option_or (lost_to l a.step) None) (sym (append-nil before))
+lost_push before [] a =
+    nothing (lost_to before a.step) ∙ ap (λ l. option_or (lost_to l a.step) None) (sym (append-nil before))
   where
     nothing : (o : Option Lost) → option_or None o ≡ option_or o None
     nothing None = refl

@@ -1,5 +1,6 @@
 -- The accesses of one object that stand in a history.
-use Rattle.std.specs.Prelude.{◌≡◌, ℕ, Bool, cond, nat_eq, not, ◌&&◌, ◌++◌, Option, None, Some, List, [], ◌∷◌, filter, map}
+use Rattle.std.specs.Prelude.{◌≡◌, ℕ, Bool, cond, nat_eq, not, ◌&&◌, ◌++◌, Option, None, Some, List, [], ◌∷◌}
+use Rattle.std.specs.Prelude.{filter, map}
 use Rattle.std.specs.Option.{option_or}
 use Rattle.std.specs.List.{list_any}
 use Rattle.om_foot.specs.declared.footprint.Access.{Access}

@@ -26,8 +26,8 @@ pub struct AccessStep {
 #[derive(Drop)]
 pub struct Accessed {
     pub step: AccessStep,
-    /// The variable and the value that the step read or put, as `x = 1`; no bytes where that is not told. Where it met a
-    /// fault, that stands in place of the value.
+    /// The variable and the value that the step read or put, as `x = 1`; no bytes where that is not told. Where it met
+    /// a fault, that stands in place of the value.
     pub value: Seq<u8>,
     /// The store of another worker that it read: the last step before it that wrote the cell.
     pub seen: Option<End>,
@@ -116,8 +116,8 @@ fn written_behind(written: Option<AccessStep>, step: AccessStep) -> Option<Acces
     }
 }
 
-// Adds the access of a step that touches the object with a mode, and answers the last step that wrote. When out of memory,
-// nothing is said of the accesses.
+// Adds the access of a step that touches the object with a mode, and answers the last step that wrote. When out of
+// memory, nothing is said of the accesses.
 fn push_access(
     alloc: Global,
     all: &mut Vec<Accessed>,

@@ -29,7 +29,7 @@ fn is_update(name: &[u8]) -> bool
     is_named(name, b"ATOM") || (is_named(name, b"ATOMX") || is_named(name, b"RED"))
 }
 
-// Whether an instruction of this name accesses one variable alone, and has its value on its way to the stack or from it.
+// Whether an instruction of this name loads or stores one variable alone: its step's value is that variable's.
 fn has_value(name: &[u8]) -> bool
     ensures { result ≡ has_value name.now }
 {

@@ -5,10 +5,10 @@ use Rattle.lab_why.proofs.lost.last_load.Goals as goal
 
 pub returns-then-is_load_of : goal.returns-then-is_load_of
 returns-then-is_load_of c =
-    last_found (is_load_of c.args.worker) c.args.before.now c.loop-at.at c.index-before-at.result _ (omega arith) (omega arith)
-    c.index-before-at.is c.loop-at.invariant (sym c.is_load_of.ensures ∙ c.if-is_load_of.true)
+    last_found (is_load_of c.args.worker) c.args.before.now c.loop-at.at c.index-before-at.result _ (omega arith)
+    (omega arith) c.index-before-at.is c.loop-at.invariant (sym c.is_load_of.ensures ∙ c.if-is_load_of.true)
 
 pub loop-at-preserved : goal.loop-at-preserved
 loop-at-preserved c =
-    last_passed (is_load_of c.args.worker) c.args.before.now c.loop-at.at c.index-before-at.result _ (omega arith) (omega arith)
-    c.index-before-at.is c.loop-at.invariant (sym c.is_load_of.ensures ∙ c.if-is_load_of.false)
+    last_passed (is_load_of c.args.worker) c.args.before.now c.loop-at.at c.index-before-at.result _ (omega arith)
+    (omega arith) c.index-before-at.is c.loop-at.invariant (sym c.is_load_of.ensures ∙ c.if-is_load_of.false)
