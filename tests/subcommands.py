@@ -117,6 +117,36 @@ JUDGED = """2 races in this history of 18 steps; other schedules may have others
 """
 NO_STEPS = "no race in this history of 0 steps; other schedules may have some\n"
 
+# Who accesses a variable in the history of a session: of the one above, of `run`, and of one with a fault.
+WHO = """x: accessed by 5 of 18 steps
+#3 worker 1 line 6 loads x = 0
+#5 worker 0 line 6 loads x = 0
+#8 worker 0 line 6 stores x = 1
+   lost: worker 1 loaded before it, in #3, and stored over it, in #12
+#12 worker 1 line 6 stores x = 1
+#15 worker 0 line 7 loads x = 1, stored by #12 of worker 1
+"""
+UPDATES = """x: accessed by 3 of 14 steps
+#4 worker 0 line 6 updates x = 1
+#8 worker 1 line 6 updates x = 2, stored by #4 of worker 0
+#11 worker 0 line 8 loads x = 2, stored by #8 of worker 1
+"""
+SHARED = "int main(void)\n{\n    int n = 2;\n#pragma omp parallel\n    n = n + 1;\n    return n;\n}\n"
+LOCAL = """n: accessed by 6 of 19 steps
+#2 worker 0 line 3 stores n = 2
+#5 worker 0 line 5 loads n = 2
+#8 worker 0 line 5 stores n = 3
+#11 worker 1 line 5 loads n = 3, stored by #8 of worker 0
+#14 worker 1 line 5 stores n = 4
+#17 worker 0 line 6 loads n = 4, stored by #14 of worker 1
+"""
+UNSET = """x: accessed by 2 of 2 steps
+#1 worker 0 line 3 ends x
+#2 worker 0 line 4 x: F4 a variable is read in which nothing was stored
+"""
+TWICE = "int f(int n);\n" + SHARED.replace("return n", "return f(n)") + "int f(int n)\n{\n    return n;\n}\n"
+NO_CELL = " names no cell here: of no global, as x or a[3], and of no variable of a function that a step names\n"
+
 # Sessions of examples/races, and their races: found by hand, from the loads and stores that a model makes.
 RACES = os.path.join(os.path.dirname(os.path.abspath(__file__)), "..", "examples", "races")
 BOTH_INSIDE = "break 10\nrun 1000\nstep 0\n" + "next 1\n" * 6 + "next 0\nundo 1\n"
@@ -222,6 +252,14 @@ ROWS = [
     ("tasks are ordered with a wait alone", JUDGE, race("task-order"), LAST_TASK_FIRST, 1, TOO_EARLY, "line 5: next 1: blocked B1\n"),
     ("one history is not all", JUDGE, RACE, "", 4, NO_STEPS, ""),
     ("which commands were turned down is told with the races", JUDGE, RACE, "stepp 0\n", 4, NO_STEPS, "line 1: stepp 0: H1 unknown command\n"),
+    ("a lost store is told", ["why", "x"], RACE, "step 0\nstep 1\nstep 1\nrun 100\n", 1, WHO, ""),
+    ("no atomic update is lost", ["why", "x"], MENDED, "run 100\n", 0, UPDATES, ""),
+    ("a variable of a function is accessed", ["why", "n"], SHARED, "run 100\n", 0, LOCAL, ""),
+    ("a fault is an access", ["why", "x"], FAULTY, "run 10\nundo 7\n", 0, UNSET, "line 2: undo 7: H2 bad argument\n"),
+    ("no step accesses a variable", ["why", "x"], RACE, "", 0, "x: accessed by 0 of 0 steps\n", ""),
+    ("a word names no variable", ["why", "y"], RACE, "run 100\n", 2, "", "error: y" + NO_CELL),
+    ("a word names two variables", ["why", "n"], TWICE, "run 100\n", 2, "", "error: n names cells of 2 variables of functions here\n"),
+    ("no accesses in a refused source", ["why", "x"], STATIC, "", 5, "", LEFT_OUT),
     ("no races of the session of a refused source", JUDGE, STATIC, "", 5, "", LEFT_OUT),
     ("no hunt of a refused source", HUNT, STATIC, "", 5, "", LEFT_OUT),
     ("no schedules of a refused source", ["explore"], STATIC, "", 5, "", LEFT_OUT),

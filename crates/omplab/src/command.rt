@@ -11,8 +11,8 @@ const STATUSES: &str = "With --version alone, standard output tells the version.
 Exit status:
   0  it is done, and nothing bad was found; or help, or the version is told
   1  something bad was found: `hunt` a schedule, `explore` a second end, a fault or a race, `races` a race,
-     `check` a source that is refused; `port` has a text that is refused, or that --strict holds back
-  2  wrong words
+     `why` a store that was lost, `check` a source that is refused; `port` has a text that is refused, or that --strict holds back
+  2  wrong words, or a word that names no variable
   3  a fault, told on standard error: H3 a read failed, H4 a write failed, H5 no memory
   4  nothing bad was found, and not all was looked at: `explore` and `races`
   5  the source is refused (but by `check` and `port`); standard error tells why and where";
@@ -256,6 +256,22 @@ fn way<'a>(alloc: Global) -> Arg<'a> {
     )
 }
 
+fn why<'a>(alloc: Global) -> AllocResult<Command<'a>> {
+    let command = Command::new(alloc, "why")
+        .about("Reads commands on standard input, and tells who accessed a variable in the history that they leave")
+        .after_help(
+            "The steps that stand are listed, the latest last; a load says which store of another worker it read.
+Where another worker stored over a store and had not read it, the last such one is told, and the status is 1.",
+        );
+    let variable = Arg::new(alloc, "variable")
+        .value_name("VAR")
+        .help("A global, as x or a[3], or the only variable of a function that a step names so")
+        .required(true)
+        .action(ArgAction::Set);
+    let command = command.arg(variable);
+    with(command, file(alloc, true))
+}
+
 fn notes<'a>(alloc: Global) -> AllocResult<Command<'a>> {
     Command::new(alloc, "notes")
         .about("Passes the answers of `ompback FILE` on, with words after them")
@@ -307,6 +323,7 @@ pub(crate) fn omplab<'a>(alloc: Global) -> AllocResult<Command<'a>> {
     let command = over(command, hunt(alloc));
     let command = over(command, explore(alloc));
     let command = over(command, races(alloc));
+    let command = over(command, why(alloc));
     let command = over(command, script(alloc));
     let command = over(command, notes(alloc));
     over(command, draw(alloc))

@@ -3,7 +3,7 @@
 //! - `command` names the subcommands, and `words` reads the command line. `main` joins it with files and
 //!   streams, and `faults` says on standard error why there is no answer.
 //! - `subcommands` does each over any streams: `check`, `hunt`, `script`, `notes`, `draw`; `port` does `port`,
-//!   `explore` both `explore` and `races`, and `judge` `races --session`. A `Meter` tells how far a hunt is.
+//!   `explore` both `explore` and `races`, `judge` `races --session`, and `why` `why`. A `Meter` tells how far a hunt is.
 //! - A new subcommand is a crate of its own, with its part in `command`, `words` and `subcommands`, and a row
 //!   of `tests/subcommands.py`.
 #![tactic(auto)]
@@ -17,6 +17,7 @@ mod judge;
 mod meter;
 mod port;
 mod subcommands;
+mod why;
 mod words;
 
 use crate::explore::explore;
@@ -24,6 +25,7 @@ use crate::faults::{source_in, told};
 use crate::judge::judge;
 use crate::port::port;
 use crate::subcommands::{Host, Search, check, draw, explain, hunt, keep, plain};
+use crate::why::answer;
 use crate::words::{Asked, Words, ask_for_version, words_in};
 use clap::Error;
 use clap::error::ErrorKind;
@@ -51,6 +53,7 @@ fn file_of<'a>(asked: Asked<'a>) -> Option<&'a str> {
         Asked::Hunt { file, .. } => Some(file),
         Asked::Explore { file, .. } => Some(file),
         Asked::Judge { file } => Some(file),
+        Asked::Why { file, .. } => Some(file),
         Asked::Notes { file } => Some(file),
         Asked::Script { file, .. } => file,
         Asked::Draw { file } => file,
@@ -98,6 +101,9 @@ fn done<R: Runtime + Threads + Wait + Sync>(
             explore(host, &question, &mut writer)
         }
         Asked::Judge { .. } => judge(host, &mut host.rt.reader(), &mut writer),
+        Asked::Why { variable, .. } => {
+            answer(host, variable, &mut host.rt.reader(), &mut writer)
+        }
         Asked::Notes { .. } => explain(host, &mut host.rt.reader(), &mut writer),
         Asked::Script {
             plain: Some(most),

@@ -57,6 +57,12 @@ pub enum Asked<'a> {
     Judge {
         file: &'a str,
     },
+    /// To tell who accessed a variable in the history that a session leaves.
+    Why {
+        file: &'a str,
+        /// The variable, as `x` or `a[3]`.
+        variable: &'a str,
+    },
     /// To write the steps that a session leaves as a script, or those of a cone.
     Script {
         file: Option<&'a str>,
@@ -141,6 +147,10 @@ fn asked_by<'a>(name: &str, given: &ArgMatches<'a>) -> Option<Asked<'a>> {
         "hunt" => hunt_by(file?, given)?,
         "explore" => explore_by(file?, Subject::Ends, given)?,
         "races" => races_by(file?, given)?,
+        "why" => Asked::Why {
+            file: file?,
+            variable: given.get_str("variable")?,
+        },
         "script" => Asked::Script {
             file,
             cone: given.get_one::<u64>("cone"),
