@@ -258,7 +258,9 @@ fn way<'a>(alloc: Global) -> Arg<'a> {
 
 fn why<'a>(alloc: Global) -> AllocResult<Command<'a>> {
     let command = Command::new(alloc, "why")
-        .about("Reads commands on standard input, and tells who accessed a variable in the history that they leave")
+        .about(
+            "Reads commands on standard input, and tells who accessed a variable in the history that they leave",
+        )
         .after_help(
             "The steps that stand are listed, the latest last; a load says which store of another worker it read.
 Where another worker stored over a store and had not read it, the last such one is told, and the status is 1.",

@@ -21,7 +21,13 @@ pub(crate) fn answer<H: Threads + Wait + Sync, R: Read, W: Write>(
     requires least { 0 < host.now.options.workers }
     requires most { host.now.options.workers ≤ 32 }
 {
-    match answered(host.rt, host.alloc, reader, host.options, variable.as_bytes()) {
+    match answered(
+        host.rt,
+        host.alloc,
+        reader,
+        host.options,
+        variable.as_bytes(),
+    ) {
         Ok(
             Why::Told {
                 text,
