@@ -2,6 +2,7 @@
 use Rattle.std.specs.Prelude.{ℕ, cond, nat_eq, Option, None, Some, List, [], ◌∷◌, ◌++◌, codes, decimal, length}
 use Rattle.om_shell_commands.specs.Lists.{joined}
 use Rattle.lab_graph.specs.declared.picture.End.{End}
+use Rattle.lab_why.specs.declared.accesses.AccessStep.{AccessStep}
 use Rattle.lab_why.specs.declared.accesses.Accessed.{Accessed}
 use Rattle.lab_why.specs.declared.kind.Kind.{Kind}
 use Rattle.lab_why.specs.declared.kind.Kind.TheVariants as kind
@@ -25,11 +26,14 @@ seen_text None = []
 seen_text (Some store) = (codes ", stored by #" ++ decimal store.serial)
     ++ (codes " of worker " ++ decimal store.worker)
 
+abbrev pub step_text : AccessStep → List ℕ
+step_text a = (codes "#" ++ decimal a.serial) ++ (codes " worker " ++ decimal a.worker)
+    ++ (codes " line " ++ decimal a.line)
+
 -- the line of an access: its step, its worker, its source line, and what it did: `#8 worker 0 line 6 stores x = 1`
 abbrev pub line_text : List ℕ → Accessed → List ℕ
-line_text word a = (codes "#" ++ decimal a.step.serial) ++ (codes " worker " ++ decimal a.step.worker)
-    ++ (codes " line " ++ decimal a.step.line) ++ verb_text a.step.kind ++ shown_text word a.value
-    ++ seen_text a.seen ++ codes "\n"
+line_text word a = step_text a.step ++ verb_text a.step.kind ++ shown_text word a.value ++ seen_text a.seen
+    ++ codes "\n"
 
 -- by whom a store was lost
 abbrev pub lost_text : Lost → List ℕ

@@ -89,7 +89,7 @@ fn is_listed(cells: &[SharedObject], cell: &Obj) -> bool
 
 // Adds a cell, where there is one that is not listed. When out of memory, nothing is said of the cells.
 fn push_cell(cells: &mut Vec<SharedObject>, cell: Option<&SharedObject>) -> AllocResult<()>
-    ensures { OnOk result (cells.new.items ≡ with_cell cells.old.items (option_copied cell)) }
+    ensures { OnOk result (cells.new.items ≡ with_cell cells.old.items (option_copied cell.entry)) }
 {
     let Some(cell) = cell else {
         return Ok(());

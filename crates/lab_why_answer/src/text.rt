@@ -3,10 +3,10 @@
 ghost use Rattle.std.specs.Prelude.{◌≡◌, ◌++◌, IfOk, OnOk};
 ghost use Rattle.om_shell_commands.specs.Lists.{joined};
 ghost use Rattle.om_shell_commands.specs.Texts.{Writes};
-ghost use Rattle.lab_why_answer.specs.Texts.{answer_text, entry_text, head_text, line_text, lost_text, mark_text, nothing_text, seen_text, several_text, shown_text, verb_text};
+ghost use Rattle.lab_why_answer.specs.Texts.{answer_text, entry_text, head_text, line_text, lost_text, mark_text, nothing_text, seen_text, several_text, shown_text, step_text, verb_text};
 
 use lab_graph::End;
-use lab_why::{Accessed, Kind, Lost};
+use lab_why::{AccessStep, Accessed, Kind, Lost};
 use om_seq::AllocResult;
 use om_shell_commands::push_numbered;
 use std::alloc::Global;
@@ -45,14 +45,21 @@ fn push_seen(text: &mut Vec<u8>, seen: Option<End>) -> AllocResult<()>
     push_numbered(text, b" of worker ", store.worker)
 }
 
+// Appends a step, its worker and its source line.
+fn push_step(text: &mut Vec<u8>, step: AccessStep) -> AllocResult<()>
+    ensures { OnOk result (text.new.items ≡ text.old.items ++ step_text step) }
+{
+    push_numbered(text, b"#", step.serial)?;
+    push_numbered(text, b" worker ", step.worker)?;
+    push_numbered(text, b" line ", step.line)
+}
+
 // Appends the line of an access.
 fn push_line(text: &mut Vec<u8>, word: &[u8], accessed: &Accessed) -> AllocResult<()>
     ensures { OnOk result (text.new.items ≡ text.old.items ++ line_text word.now accessed.now) }
 {
     let step = accessed.step;
-    push_numbered(text, b"#", step.serial)?;
-    push_numbered(text, b" worker ", step.worker)?;
-    push_numbered(text, b" line ", step.line)?;
+    push_step(text, step)?;
     text.extend_from_slice(verb_text(step.kind))?;
     text.extend_from_slice(shown_text(word, accessed.value.as_slice()))?;
     push_seen(text, accessed.seen)?;
