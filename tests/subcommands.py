@@ -4,10 +4,9 @@
 LAB is the program `omplab`. Each row says what is tried; the last line counts the rows, and the status is 1 where one of them
 is wrong. What is wanted stands in each row. Which seed finds a bad schedule, only the generator says.
 Of `draw` no whole page is compared: the run that is stored in crates/omplab draws a session, and pages.py nine more.
-Of `report` all behind the head of the page is compared: each part is what another subcommand writes, or stands here.
 It needs Python 3 with its standard library alone.
 """
-import os, re, subprocess, sys, tempfile
+import os, subprocess, sys, tempfile
 
 # Two threads add to one variable, and nothing orders them.
 RACE = r"""#include <stdio.h>
@@ -258,68 +257,6 @@ BEGUN = [
     ("a subcommand is missing", [], "", "", 2, "", "error: "),
 ]
 
-# Pages of `report`. Of a program that waits nowhere `run` makes all steps.
-RAN = "ran 18 ended\noutput 2 bytes\n2\n\n"
-FEW = ["report", "--seeds", "20", "--steps", "1000"]
-ONE_STATE = [*FEW, "--states", "1"]
-EXPLORED = ["explore", "--states", "100000"]
-NOT_EXPLORED = ["explore", "--states", "1"]
-NOTHING = "nothing bad in the schedules of 20 seeds\nThese are not all schedules.\n"
-MENDED_RAN = "ran 14 ended\noutput 2 bytes\n2\n\n"
-HIDING = MENDED.replace("int x;", "volatile int x;")
-HIDES = " of the port, which hides races of the source,"
-ALL_WELL = "All schedules{} were looked at: there is one end, no worker meets a fault, and no two accesses meet."
-NOT_ALL = "Not all schedules{} were looked at, and nothing bad was found."
-
-# What is tried, its words, its source, the status, the sentence on the whole, and the parts: their headings, and of each its
-# text, or the words that write it.
-REPORTS = [
-    ("a report shows a lost update", FEW, RACE, 1, "Something bad was found.", [
-        ("What check says", "a.c: accepted\n"),
-        ("What run answers", RAN),
-        ("All schedules", EXPLORED),
-        ("Schedules by chance", 'seed 5: printed "1\\n", where `run` prints "2\\n"\n' + SHORTENED),
-        ("Its picture", SHORTENED),
-        ("Its script, for ompback", SHORTENED.split("\n\n")[1]),
-        ("All of its steps, with notes", SHORTENED),
-    ]),
-    ("a report finds all well", FEW, MENDED, 0, ALL_WELL.format(""), [
-        ("What check says", "a.c: accepted\n"),
-        ("What run answers", MENDED_RAN),
-        ("All schedules", EXPLORED),
-    ]),
-    ("a report does not look at all", ONE_STATE, MENDED, 4, NOT_ALL.format(""), [
-        ("What check says", "a.c: accepted\n"),
-        ("What run answers", MENDED_RAN),
-        ("All schedules", NOT_EXPLORED),
-        ("Schedules by chance", NOTHING),
-    ]),
-    ("a report tells races where no schedule is bad", ONE_STATE, HARMLESS, 1, "Something bad was found.", [
-        ("What check says", "a.c: accepted\n"),
-        ("What run answers", "ran 14 ended\noutput 2 bytes\n1\n\n"),
-        ("All schedules", NOT_EXPLORED),
-        ("Schedules by chance", NOTHING),
-        ("Races of one of them", HARMS_NOT[len(NOTHING):]),
-    ]),
-    ("a report of a port that hides races says so", FEW, HIDING, 0, ALL_WELL.format(HIDES), [
-        ("What check says", ["check"]),
-        ("What port changes", ["port", "--list"]),
-        ("What run answers", MENDED_RAN),
-        ("All schedules", EXPLORED),
-    ]),
-    ("so does each answer that finds nothing bad", ONE_STATE, HIDING, 4, NOT_ALL.format(HIDES), [
-        ("What check says", ["check"]),
-        ("What port changes", ["port", "--list"]),
-        ("What run answers", MENDED_RAN),
-        ("All schedules", NOT_EXPLORED),
-        ("Schedules by chance", NOTHING),
-    ]),
-    ("a report of what has no form", FEW, POINTS, 1, "The source is refused, and so is what port makes of it.", [
-        ("What check says", ["check"]),
-        ("What port changes", ["port", "--list"]),
-    ]),
-]
-
 
 def written(lab, folder, words, source, text):
     """The status, and what is written to standard output and to standard error; where there is a source, it is named."""
@@ -342,66 +279,12 @@ def is_as_wanted(lab, folder, row, is_begun):
     return is_right
 
 
-def escaped(text):
-    for mark, name in (("&", "&amp;"), ("<", "&lt;"), (">", "&gt;"), ("'", "&#39;")):
-        text = text.replace(mark, name)
-    return text
-
-
-def program_of(lab, folder, source):
-    """What is run of a source: it, or its port."""
-    return written(lab, folder, ["port"], source, "")[1]
-
-
-def steps_of(lab, folder, program, report):
-    """The steps of the script that a hunt reported, as commands."""
-    return written(lab, folder, ["script"], program, report.split("\n\n")[1])[1]
-
-
-def replay_of(lab, folder, program, report, page):
-    """The replay on a page, if each line is that of its step with the words of `notes`, else nothing."""
-    found = re.search(r"with notes</h2>\n<pre>\n((?:#[^\n]*\n)*)</pre>\n", page)
-    lines = found[1].split("\n")[:-1] if found else []
-    bare = [re.match(r"#\d+ worker \d+ line \d+", line)[0] for line in lines]
-    steps = steps_of(lab, folder, program, report).split("\n")[:-1]
-    are_steps = [line.split()[:3] for line in bare] == [[f"#{i + 1}", "worker", step.split()[1]] for i, step in enumerate(steps)]
-    return written(lab, folder, ["notes"], program, "".join(line + "\n" for line in bare))[1] if are_steps else ""
-
-
-def part_of(lab, folder, source, page, heading, what):
-    """A part of a page as it is wanted."""
-    program = program_of(lab, folder, source)
-    if heading == "Its picture":
-        picture = written(lab, folder, ["draw"], program, steps_of(lab, folder, program, what))[1]
-        return f"<h2>{heading}</h2>\n<iframe srcdoc='{escaped(picture)}'></iframe>\n"
-    if heading == "All of its steps, with notes":
-        what = replay_of(lab, folder, program, what, page)
-    if isinstance(what, list):
-        what = written(lab, folder, what, program if what[0] == "explore" else source, "")[1]
-    is_said = heading in ("All schedules", "Schedules by chance") and "volatile" in source
-    before = "<p>Of the port, which hides races of the source, it is said:</p>\n" if is_said else ""
-    return f"<h2>{heading}</h2>\n{before}<pre>\n{escaped(what)}</pre>\n"
-
-
-def is_report(lab, folder, row):
-    title, words, source, status, sentence, parts = row
-    got_status, page, errors = written(lab, folder, words, source, "")
-    wanted = f"<h1>a.c</h1>\n<p>{sentence}</p>\n"
-    wanted += "".join(part_of(lab, folder, source, page, *part) for part in parts) + "</body>\n</html>\n"
-    head, _, behind = page.partition("<body>\n")
-    is_right = got_status == status and behind == wanted and errors == "" and head.startswith("<!DOCTYPE html>\n")
-    is_right = is_right and "<script" not in page
-    print(f"{title}: {'as it is wanted' if is_right else f'WRONG, status {got_status}, {behind!r} in place of {wanted!r}, {errors!r}'}")
-    return is_right
-
-
 def main():
     if len(sys.argv) != 2:
         sys.exit(__doc__)
     lab = os.path.abspath(sys.argv[1])
     with tempfile.TemporaryDirectory() as folder:
         right = [is_as_wanted(lab, folder, row, False) for row in ROWS + ALONE] + [is_as_wanted(lab, folder, row, True) for row in BEGUN]
-        right += [is_report(lab, folder, row) for row in REPORTS]
     print(f"{len(right)} rows, {right.count(False)} wrong")
     sys.exit(0 if all(right) else 1)
 

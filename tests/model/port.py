@@ -401,9 +401,9 @@ SIGHT = 1024
 
 
 def facts(all):
-    """What the whole source has: names of its own, arguments of main, calls of abort and of assert."""
+    """What the whole source has: names of its own, arguments of main, calls of abort and of assert, conditions."""
     x = first()
-    own = args = ab = asr = False
+    own = args = ab = asr = conditions = False
     for i, c in enumerate(all):
         rest = None
         if c[0] == 'Library':
@@ -424,8 +424,10 @@ def facts(all):
             ab = True
         if c == ('Library', 'Assert') and body:
             asr = True
+        if x.line == 'Other':
+            conditions = True
         x = behind(x, c)
-    return (own, args, ab, asr)
+    return (own, args, ab, asr, conditions)
 
 
 def begins(x):
@@ -508,7 +510,7 @@ def number(f):
 
 def code(f, x, c, rest):
     """What a token of code becomes."""
-    own, args, ab, asr = f
+    own, args, ab, asr, _ = f
     if c[0] in ('Type', 'Storage') and x.braces == 0 and begins(x) and (not own):
         n = prototype_size(rest)
         if n is not None:
@@ -573,8 +575,8 @@ def code(f, x, c, rest):
 
 def include(f, x, rest):
     """What an include becomes."""
-    own, args, ab, asr = f
-    if not (nth(0, rest) == ('Hash', 'Include') and sign(nth(1, rest), 'Less') and (nth(2, rest) not in (('Hash', 'Stdio'), ('Hash', 'Omp')))):
+    own, args, ab, asr, conditions = f
+    if conditions or not (nth(0, rest) == ('Hash', 'Include') and sign(nth(1, rest), 'Less') and (nth(2, rest) not in (('Hash', 'Stdio'), ('Hash', 'Omp')))):
         return K
     n = next((i + 1 for i, c in enumerate(rest) if sign(c, 'Greater')), None)
     h = nth(2, rest)

@@ -1,29 +1,43 @@
 """port_conditions.py: the first stage of the model of the port: conditions of `cpp`, and the lines that they leave out.
 
-It answers edits of the pieces of a text, as port_stages.py does.
+It answers edits of the pieces of a text, as port_stages.py does. The names that headers define it reads from the crate
+lab_port_conditions; tests/headers.py compares these with gcc.
 """
+import os
 import re
-from port import GAPS
+from port import GAPS, HERE
 from port_stages import SPACES, Text
 
-OF_HEADERS = (b"INT_MAX", b"INT_MIN", b"EXIT_SUCCESS", b"EXIT_FAILURE", b"true", b"false", b"bool", b"NULL")
+with open(os.path.join(HERE, "../../crates/lab_port_conditions/src/header.rt"), "rb") as file:
+    HEADERS, OF_HEADERS = (re.findall(rb'b"(\w+)"', it) for it in re.findall(rb"= \[\n(.*?)\];", file.read(), re.S))
 
 
-def undefined(name):
+class Names(dict):
+    """The macros of the program, each with its body; and whether a header was included that may define others."""
+
+    more = False
+
+
+def undefined(names, name):
     """What a condition on a name says that the program does not define."""
-    return None if not re.match(rb"[A-Za-z]", name) or name in OF_HEADERS else False
+    return None if names.more or not re.match(rb"[A-Za-z]", name) or name in OF_HEADERS else False
+
+
+def is_known_header(words):
+    """Whether the names are known that the header defines whose include has these tokens."""
+    return any(words == [b"include", b"<", name, b".", b"h", b">"] for name in HEADERS)
 
 
 def asked(names, name):
     """Whether a name is defined."""
-    return True if name in names or name == b"_OPENMP" else undefined(name)
+    return True if name in names or name == b"_OPENMP" else undefined(names, name)
 
 
 def value(names, text):
     """What a token says as a condition."""
     if not re.match(rb"[0-9]", text):
         if text not in names:
-            return undefined(text)
+            return undefined(names, text)
         text = names[text]
     return False if text == b"0" else True if re.match(rb"[1-9]", text) else None
 
@@ -53,13 +67,15 @@ def kind(names, words):
         return first.decode(), None
     if first == b"define":
         return ("define" if len(names) < 256 else "foreign"), None
-    return ("plain" if first in (b"include", b"pragma") else "foreign"), None
+    if first == b"include":
+        return ("plain" if is_known_header(words[:6]) else "include"), None
+    return ("plain" if first == b"pragma" else "foreign"), None
 
 
 def condition_edits(pieces):
     """The lines that go with conditions."""
     text = Text(pieces)
-    names, edits, skipped, opened, at, count = {}, [], 0, 0, 0, 0
+    names, edits, skipped, opened, at, count = Names(), [], 0, 0, 0, 0
     while at < len(pieces):
         end = next((i for i in range(at, len(pieces)) if pieces[i][0] == "LineEnd"), len(pieces))
         begins = text.before[at].line == "Fresh" and pieces[at][0] == "Mark" and pieces[at][2] == b"#"
@@ -89,6 +105,8 @@ def condition_edits(pieces):
         elif what == "define" and skipped == 0:
             names.setdefault(words[1] if len(words) > 1 else b"", words[2] if len(words) == 3 else b"")
             count += 1
+        elif what == "include" and skipped == 0:
+            names.more = True
         if drops and text.classes[at][0] not in GAPS:
             at = end
         else:

@@ -16,7 +16,9 @@ def length(text, name):
         if it != name or not is_code(context.line):
             continue
         last = context.last
-        if last[0] in ("Type", "Storage") or sign(last, "Star") or (sign(last, "Comma") and context.parens == 0):
+        attribute = sign(last, "Close") and sign(context.before, "Close")
+        comma = sign(last, "Comma") and context.parens == 0
+        if last[0] in ("Type", "Storage") or attribute or comma or sign(last, "Star"):
             after = [word for _, _, word in text.tokens(at + 1)[:4]] + [b""] * 4
             is_array = context.parens == 0 and after[0] == b"[" and after[2] == b"]" and after[3] != b"["
             found.append(after[1] if is_array else None)

@@ -2,7 +2,7 @@
 
 Each answers edits of the pieces of a text: the first piece, how many more are taken, the rule, and what is written.
 """
-from port import GAPS, WORDKINDS, begins, behind, cls, first, is_code, sign
+from port import GAPS, WORDKINDS, begins, behind, cls, cut, first, is_code, sign
 
 SPACES = ("Space", "Comment")
 WHOLE = ("Int", "Signed", "Long", "Char", "Short", "Unsigned", "Truth")
@@ -169,7 +169,10 @@ def name_edits(pieces):
         elif pieces[at][0] == "Word" and text.before[at].line in ("Fresh", "Code", "Omp") and pieces[at][2] in names:
             edits.append((at, 0, "Use", names[pieces[at][2]]))
         at += 1
-    return edits
+    # cpp reads a text again where it is used, with names that are defined behind it.
+    order = {name: i for i, name in enumerate(names)}
+    tangled = any(order.get(it, -1) > order[name] for name in names for _, _, it in cut(names[name]))
+    return [] if tangled else edits
 
 
 def values(text, at):
@@ -212,6 +215,17 @@ def stores(name, found):
     return b";".join(b" " + name + b"[%d] =" % i + b"".join(b" " + it for it in value) for i, value in enumerate(found))
 
 
+def is_static(text, at):
+    """Whether `static` stands in the declaration before a piece."""
+    while at > 0:
+        at -= 1
+        if text.classes[at] in (("Sign", "Semicolon"), ("Sign", "OpenBrace"), ("Sign", "CloseBrace")):
+            return False
+        if text.classes[at] == ("Storage", "Static") and is_code(text.before[at].line):
+            return True
+    return False
+
+
 def list_edits(pieces):
     """Lists of values."""
     text = Text(pieces)
@@ -221,7 +235,8 @@ def list_edits(pieces):
     while at < len(pieces):
         context, one, name = text.before[at], text.classes[at], pieces[at][2]
         declared = is_code(context.line) and one == ("Word", "Other") and context.typed and context.parens == 0
-        found = values(text, at) if free and declared else None
+        once = declared and context.braces and is_static(text, at)
+        found = values(text, at) if free and declared and not once else None
         begins_main = context.in_main and context.braces == 0 and sign(one, "OpenBrace")
         if found and (context.braces or not filled):
             size, length, parts = found

@@ -14,7 +14,7 @@ use Rattle.lab_port_conditions.specs.Places.{is_decided, macros_behind, first_sp
 use Rattle.lab_port_calls.specs.declared.place.Spot.{Spot as CallSpot}
 use Rattle.lab_port_calls.specs.Places.{names_here as functions_here, first_spot as first_call, mark_here as call_here, spot_behind as call_behind, marks_from as called_from}
 use Rattle.lab_port_names.specs.declared.uses.Spot.{Spot as NameSpot}
-use Rattle.lab_port_names.specs.Uses.{names_here, first_spot as first_name, mark_here as name_here, spot_behind as name_behind, marks_from as named_from}
+use Rattle.lab_port_names.specs.Uses.{names_here, is_sure, first_spot as first_name, mark_here as name_here, spot_behind as name_behind, marks_from as named_from}
 use Rattle.lab_port_lists.specs.declared.place.Spot.{Spot as ListSpot}
 use Rattle.lab_port_lists.specs.Places.{names_with, first_spot as first_list, mark_here as list_here, spot_behind as list_behind, marks_from as listed_from}
 use Rattle.lab_port_arguments.specs.declared.place.Spot.{Spot as ArgumentSpot}
@@ -94,7 +94,7 @@ prints_length spot (piece ∷ rest) =
 pub stage_fit : (stage : Stage) (pieces : List Piece) → length (stage_marks stage pieces) ≡ length pieces
 stage_fit stages.Conditions pieces = conditions_length (is_decided pieces) [] first_condition pieces
 stage_fit stages.Calls pieces = calls_length pieces [] (first_call pieces) pieces
-stage_fit stages.Names pieces = names_length [] (first_name pieces) pieces
+stage_fit stages.Names pieces = names_length [] (first_name (is_sure pieces)) pieces
 stage_fit stages.Arguments pieces = arguments_length (is_replaced pieces) first_argument pieces
 stage_fit stages.Arrays pieces = arrays_length pieces (first_array pieces) pieces
 stage_fit stages.Lists pieces = lists_length [] (first_list pieces) pieces

@@ -16,7 +16,7 @@ use Rattle.lab_port_conditions.specs.Places.{is_decided, line_mark, macros_behin
 use Rattle.lab_port_calls.specs.declared.place.Spot.{Spot as CallSpot}
 use Rattle.lab_port_calls.specs.Places.{names_here as functions_here, found_at as function_at, first_spot as first_call, mark_here as call_here, mark_by as call_by, spot_behind as call_behind, marks_from as called_from}
 use Rattle.lab_port_names.specs.declared.uses.Spot.{Spot as NameSpot}
-use Rattle.lab_port_names.specs.Uses.{names_here, found_at, first_spot as first_name, mark_here as name_here, mark_by as name_by, spot_behind as name_behind, marks_from as named_from}
+use Rattle.lab_port_names.specs.Uses.{names_here, found_at, is_sure, first_spot as first_name, mark_here as name_here, mark_by as name_by, spot_behind as name_behind, marks_from as named_from}
 use Rattle.lab_port_lists.specs.declared.place.Spot.{Spot as ListSpot}
 use Rattle.lab_port_lists.specs.Places.{names_with, given_size, first_spot as first_list, mark_here as list_here, mark_by as list_by, spot_behind as list_behind, marks_from as listed_from}
 use Rattle.lab_port_arguments.specs.declared.place.Spot.{Spot as ArgumentSpot}
@@ -211,7 +211,7 @@ prints_take spot (piece ∷ rest) (suc taken) same =
 pub stage_takes : (stage : Stage) (pieces : List Piece) → Fit 0 (stage_marks stage pieces)
 stage_takes stages.Conditions pieces = conditions_take (is_decided pieces) [] first_condition pieces 0 refl
 stage_takes stages.Calls pieces = calls_take pieces [] (first_call pieces) pieces 0 refl
-stage_takes stages.Names pieces = names_take [] (first_name pieces) pieces 0 refl
+stage_takes stages.Names pieces = names_take [] (first_name (is_sure pieces)) pieces 0 refl
 stage_takes stages.Arguments pieces = arguments_take (is_replaced pieces) first_argument pieces 0 refl
 stage_takes stages.Arrays pieces = arrays_take pieces (first_array pieces) pieces 0 refl
 stage_takes stages.Lists pieces = lists_take [] (first_list pieces) pieces 0 refl

@@ -1,3 +1,4 @@
+pub mod Headers
 pub mod Kinds
 pub mod States
 pub mod Places

@@ -15,6 +15,7 @@ use Rattle.lab_port_rules.specs.declared.rule.Rule.TheVariants as rules
 use Rattle.lab_port_rules.specs.declared.mark.Mark.{Mark}
 use Rattle.lab_port_rules.specs.declared.mark.Mark.TheVariants as marks
 use Rattle.lab_port_rules.specs.Marks.{taken_after}
+use Rattle.lab_port_conditions.specs.declared.kind.Kind.{Kind}
 use Rattle.lab_port_conditions.specs.declared.place.Spot.{Spot}
 use Rattle.lab_port_conditions.specs.declared.state.State.{State}
 use Rattle.lab_port_conditions.specs.Kinds.{kind_of}
@@ -45,16 +46,20 @@ is_fresh _ = false
 abbrev pub begins_line : Context → Piece → Bool
 begins_line context piece = is_fresh context.line && is_hash (class_of piece)
 
+-- what the line is whose `#` stands before these pieces
+unfoldable pub kind_here : List Meaning → Spot → List Piece → Kind
+kind_here names spot rest = kind_of spot.state.has_unknown names (line_of rest)
+
 -- what the conditions leave behind a piece
 abbrev pub state_behind : List Meaning → Spot → Piece → List Piece → State
 state_behind names spot piece rest =
-    if begins_line spot.context piece then behind_kind spot.state (kind_of names (line_of rest)) else spot.state
+    if begins_line spot.context piece then behind_kind spot.state (kind_here names spot rest) else spot.state
 
 -- the macros that are defined behind a piece
 abbrev pub macros_behind : List Meaning → Spot → Piece → List Piece → List Meaning
 macros_behind names spot piece rest =
     if begins_line spot.context piece
-    then names_behind names spot.state (kind_of names (line_of rest)) (line_of rest)
+    then names_behind names spot.state (kind_here names spot rest) (line_of rest)
     else names
 
 abbrev pub spot_behind : List Meaning → Spot → Mark → Piece → List Piece → Spot
@@ -67,7 +72,7 @@ spot_behind names spot mark piece rest = record {
 abbrev pub first_spot : Spot
 first_spot = record {
   context = at_first;
-  state = record { skipped = 0; opened = 0; is_sure = true };
+  state = record { skipped = 0; opened = 0; is_sure = true; has_unknown = false };
   taken = 0;
 }
 
@@ -88,7 +93,7 @@ is_decided all = is_whole (state_from [] first_spot all)
 abbrev pub is_left_out : List Meaning → Spot → Piece → List Piece → Bool
 is_left_out names spot piece rest =
     nat_lt 0 spot.state.skipped
-    || (begins_line spot.context piece && is_turn (kind_of names (line_of rest)))
+    || (begins_line spot.context piece && is_turn (kind_here names spot rest))
 
 abbrev pub line_mark : List Meaning → Spot → Piece → List Piece → Mark
 line_mark names spot piece rest =

@@ -11,11 +11,30 @@ use Rattle.lab_port_conditions.specs.Kinds.{ends_at}
 
 -- so many conditions leave lines out, and so many do not
 abbrev pub of_counts : State → ℕ → ℕ → State
-of_counts state skipped opened = record { skipped = skipped; opened = opened; is_sure = state.is_sure }
+of_counts state skipped opened = record {
+  skipped = skipped;
+  opened = opened;
+  is_sure = state.is_sure;
+  has_unknown = state.has_unknown;
+}
 
 -- behind a line that is not understood
 abbrev pub lost : State → State
-lost state = record { skipped = state.skipped; opened = state.opened; is_sure = false }
+lost state = record {
+  skipped = state.skipped;
+  opened = state.opened;
+  is_sure = false;
+  has_unknown = state.has_unknown;
+}
+
+-- behind a header whose macros are not known
+abbrev pub behind_header : State → State
+behind_header state = record {
+  skipped = state.skipped;
+  opened = state.opened;
+  is_sure = state.is_sure;
+  has_unknown = true;
+}
 
 -- behind the `#else` or the `#endif` of a condition whose lines stay
 abbrev pub behind_opened : State → ℕ → State
@@ -30,6 +49,7 @@ behind_written state kinds.Otherwise = behind_opened state 1
 behind_written state kinds.Ended = behind_opened state 0
 behind_written state kinds.Defined = state
 behind_written state kinds.Plain = state
+behind_written state kinds.Included = behind_header state
 behind_written state _ = lost state
 
 -- behind a line that is left out

@@ -1,8 +1,9 @@
 //! What a `#` line is to conditions (C17 6.10, 6.10.1).
 
 ghost use Rattle.std.specs.Prelude.{◌≡◌, slice_index};
-ghost use Rattle.lab_port_conditions.specs.Kinds.{is_nth, ends_at, is_known, body_of, is_letter, is_constant, is_of_header, is_reserved, undefined, asked, denied, if_ended, is_positive, number_kind, name_kind, is_digit_first, value_of, defined_at, condition_at, condition_of, definition_kind, plain_kind, other_kind, kind_of};
+ghost use Rattle.lab_port_conditions.specs.Kinds.{is_nth, ends_at, is_known, body_of, is_letter, is_reserved, undefined, asked, denied, if_ended, is_positive, number_kind, name_kind, is_digit_first, value_of, defined_at, condition_at, condition_of, definition_kind, includes_known, header_kind, plain_kind, other_kind, kind_of};
 
+use crate::header::{is_header, is_of_header};
 use lab_port_context::nth_text;
 use lab_port_rules::Meaning;
 use lab_port_tokens::Piece;
@@ -24,24 +25,27 @@ pub enum Kind {
     Ended,
     /// `#define`
     Defined,
-    /// `#include` or `#pragma`
+    /// `#include` of a header whose macros are known, or `#pragma`
     Plain,
+    /// `#include` of another header
+    Included,
     /// Any other.
     Foreign,
 }
 
-/// What the line is, of these pieces behind its `#`, where these macros are defined.
-pub(crate) fn kind_of(names: &[Meaning], line: &[Piece]) -> Kind
-    ensures { result ≡ kind_of names.now line.now }
+/// What the line is, of these pieces behind its `#`, where these macros are defined, and headers that are not known may
+/// define more.
+pub(crate) fn kind_of(unknown: bool, names: &[Meaning], line: &[Piece]) -> Kind
+    ensures { result ≡ kind_of unknown names.now line.now }
 {
     if is_nth(0, b"ifdef", line) {
-        return if_ended(2, line, asked(names, nth_text(1, line)));
+        return if_ended(2, line, asked(unknown, names, nth_text(1, line)));
     }
     if is_nth(0, b"ifndef", line) {
-        return denied(if_ended(2, line, asked(names, nth_text(1, line))));
+        return denied(if_ended(2, line, asked(unknown, names, nth_text(1, line))));
     }
     if is_nth(0, b"if", line) {
-        condition_of(names, line)
+        condition_of(unknown, names, line)
     } else {
         other_kind(names, line)
     }
@@ -71,11 +75,32 @@ fn plain_kind(names: &[Meaning], line: &[Piece]) -> Kind
     if is_nth(0, b"define", line) {
         return definition_kind(names);
     }
-    if is_nth(0, b"include", line) || is_nth(0, b"pragma", line) {
+    if is_nth(0, b"include", line) {
+        return header_kind(line);
+    }
+    if is_nth(0, b"pragma", line) {
         Kind::Plain
     } else {
         Kind::Foreign
     }
+}
+
+fn header_kind(line: &[Piece]) -> Kind
+    ensures { result ≡ header_kind line.now }
+{
+    if includes_known(line) {
+        Kind::Plain
+    } else {
+        Kind::Included
+    }
+}
+
+// Whether the header in angle brackets is one whose macros are known.
+fn includes_known(line: &[Piece]) -> bool
+    ensures { result ≡ includes_known line.now }
+{
+    (is_nth(1, b"<", line) && is_header(nth_text(2, line)))
+        && (is_nth(3, b".", line) && (is_nth(4, b"h", line) && is_nth(5, b">", line)))
 }
 
 // The first 256 macros are kept.
@@ -90,59 +115,59 @@ fn definition_kind(names: &[Meaning]) -> Kind
 }
 
 // What `#if` asks.
-fn condition_of(names: &[Meaning], line: &[Piece]) -> Kind
-    ensures { result ≡ condition_of names.now line.now }
+fn condition_of(unknown: bool, names: &[Meaning], line: &[Piece]) -> Kind
+    ensures { result ≡ condition_of unknown names.now line.now }
 {
     if is_nth(1, b"!", line) {
-        denied(condition_at(2, names, line))
+        denied(condition_at(2, unknown, names, line))
     } else {
-        condition_at(1, names, line)
+        condition_at(1, unknown, names, line)
     }
 }
 
 // What `#if` asks, from the token of this number on: 1 or 2.
-fn condition_at(n: u8, names: &[Meaning], line: &[Piece]) -> Kind
-    ensures { result ≡ condition_at n names.now line.now }
+fn condition_at(n: u8, unknown: bool, names: &[Meaning], line: &[Piece]) -> Kind
+    ensures { result ≡ condition_at n unknown names.now line.now }
 {
     let n = n as usize;
     if is_nth(n, b"defined", line) {
-        defined_at(n as u32 + 1, names, line)
+        defined_at(n as u32 + 1, unknown, names, line)
     } else {
-        if_ended(n + 1, line, value_of(names, nth_text(n, line)))
+        if_ended(n + 1, line, value_of(unknown, names, nth_text(n, line)))
     }
 }
 
 // What `defined` asks, which stands before the token of this number.
-fn defined_at(n: u32, names: &[Meaning], line: &[Piece]) -> Kind
-    ensures { result ≡ defined_at n names.now line.now }
+fn defined_at(n: u32, unknown: bool, names: &[Meaning], line: &[Piece]) -> Kind
+    ensures { result ≡ defined_at n unknown names.now line.now }
 {
     let n = n as usize;
     if is_nth(n, b"(", line) && is_nth(n + 2, b")", line) {
-        if_ended(n + 3, line, asked(names, nth_text(n + 1, line)))
+        if_ended(n + 3, line, asked(unknown, names, nth_text(n + 1, line)))
     } else {
-        if_ended(n + 1, line, asked(names, nth_text(n, line)))
+        if_ended(n + 1, line, asked(unknown, names, nth_text(n, line)))
     }
 }
 
 // A token as a value: a number, or the name of a macro.
-fn value_of(names: &[Meaning], text: &[u8]) -> Kind
-    ensures { result ≡ value_of names.now text.now }
+fn value_of(unknown: bool, names: &[Meaning], text: &[u8]) -> Kind
+    ensures { result ≡ value_of unknown names.now text.now }
 {
     if is_digit_first(text) {
         number_kind(text)
     } else {
-        name_kind(names, text)
+        name_kind(unknown, names, text)
     }
 }
 
 // C17 6.10.1p4: a name that is no macro is 0.
-fn name_kind(names: &[Meaning], name: &[u8]) -> Kind
-    ensures { result ≡ name_kind names.now name.now }
+fn name_kind(unknown: bool, names: &[Meaning], name: &[u8]) -> Kind
+    ensures { result ≡ name_kind unknown names.now name.now }
 {
     if is_known(name, names) {
         number_kind(body_of(name, names))
     } else {
-        undefined(name)
+        undefined(unknown, name)
     }
 }
 
@@ -205,25 +230,27 @@ fn denied(kind: Kind) -> Kind
         Kind::Ended => kind,
         Kind::Defined => kind,
         Kind::Plain => kind,
+        Kind::Included => kind,
         Kind::Foreign => kind,
     }
 }
 
 // Whether a name is defined.
-fn asked(names: &[Meaning], name: &[u8]) -> Kind
-    ensures { result ≡ asked names.now name.now }
+fn asked(unknown: bool, names: &[Meaning], name: &[u8]) -> Kind
+    ensures { result ≡ asked unknown names.now name.now }
 {
     if is_known(name, names) || name == b"_OPENMP".as_slice() {
         Kind::Chosen
     } else {
-        undefined(name)
+        undefined(unknown, name)
     }
 }
 
-fn undefined(name: &[u8]) -> Kind
-    ensures { result ≡ undefined name.now }
+// What is said of a name that the program does not define so far.
+fn undefined(unknown: bool, name: &[u8]) -> Kind
+    ensures { result ≡ undefined unknown name.now }
 {
-    if is_reserved(name) {
+    if unknown || is_reserved(name) {
         Kind::Unknown
     } else {
         Kind::Denied
@@ -234,29 +261,13 @@ fn undefined(name: &[u8]) -> Kind
 fn is_reserved(name: &[u8]) -> bool
     ensures { result ≡ is_reserved name.now }
 {
-    !is_letter(first_of(name)) || (is_constant(name) || is_of_header(name))
+    !is_letter(first_of(name)) || is_of_header(name)
 }
 
 fn is_letter(byte: u8) -> bool
     ensures { result ≡ is_letter byte }
 {
     (64 < byte && byte < 91) || (96 < byte && byte < 123)
-}
-
-// Whether it is a number that headers define.
-fn is_constant(name: &[u8]) -> bool
-    ensures { result ≡ is_constant name.now }
-{
-    (name == b"INT_MAX".as_slice() || name == b"INT_MIN".as_slice())
-        || (name == b"EXIT_SUCCESS".as_slice() || name == b"EXIT_FAILURE".as_slice())
-}
-
-// Whether `<stdbool.h>` or `<stddef.h>` defines it.
-fn is_of_header(name: &[u8]) -> bool
-    ensures { result ≡ is_of_header name.now }
-{
-    (name == b"true".as_slice() || name == b"false".as_slice())
-        || (name == b"bool".as_slice() || name == b"NULL".as_slice())
 }
 
 // Whether it is the name of one of these macros.

@@ -2,9 +2,9 @@
 
 ghost use Rattle.std.specs.Prelude.{◌≡◌, ◌≤◌, length, IfOk, OnOk};
 ghost use Rattle.lab_port_rules.specs.declared.mark.Mark.TheVariants as marks;
-ghost use Rattle.lab_port_conditions.specs.Places.{is_line_end, line_size, line_of, is_hash, is_fresh, begins_line, state_behind, macros_behind, spot_behind, first_spot, is_whole, is_decided, is_left_out, line_mark, mark_here, condition_marks};
+ghost use Rattle.lab_port_conditions.specs.Places.{is_line_end, line_size, line_of, is_hash, is_fresh, begins_line, kind_here, state_behind, macros_behind, spot_behind, first_spot, is_whole, is_decided, is_left_out, line_mark, mark_here, condition_marks};
 
-use crate::kind::kind_of;
+use crate::kind::{Kind, kind_of};
 use crate::state::{State, behind_kind, is_turn, keep_name};
 use lab_port_context::{Context, Line, at_first, context_behind};
 use lab_port_rules::{Mark, Meaning, Rule, taken_after};
@@ -74,6 +74,7 @@ fn first_spot() -> Spot
             skipped: 0,
             opened: 0,
             is_sure: true,
+            has_unknown: false,
         },
         taken: 0,
     }
@@ -90,12 +91,20 @@ fn spot_behind(names: &[Meaning], spot: Spot, mark: Mark, piece: &Piece, rest: &
     }
 }
 
+// What the line is whose `#` stands before these pieces.
+#[tactic(auto, unfolding(crate::specs::Places::kind_here))]
+fn kind_here(names: &[Meaning], spot: Spot, rest: &[Piece]) -> Kind
+    ensures { result ≡ kind_here names.now spot rest.now }
+{
+    kind_of(spot.state.has_unknown, names, line_of(rest))
+}
+
 // What the conditions leave behind a piece.
 fn state_behind(names: &[Meaning], spot: Spot, piece: &Piece, rest: &[Piece]) -> State
     ensures { result ≡ state_behind names.now spot piece.now rest.now }
 {
     if begins_line(spot.context, piece) {
-        behind_kind(spot.state, kind_of(names, line_of(rest)))
+        behind_kind(spot.state, kind_here(names, spot, rest))
     } else {
         spot.state
     }
@@ -114,9 +123,8 @@ fn keep_macro(
     if !begins_line(spot.context, piece) {
         return Ok(());
     }
-    let line = line_of(rest);
-    let kind = kind_of(names.as_slice(), line);
-    keep_name(alloc, names, spot.state, kind, line)
+    let kind = kind_here(names.as_slice(), spot, rest);
+    keep_name(alloc, names, spot.state, kind, line_of(rest))
 }
 
 // A piece of a source whose conditions are decided or not, which an earlier one takes if so many are still taken.
@@ -148,7 +156,7 @@ fn is_left_out(names: &[Meaning], spot: Spot, piece: &Piece, rest: &[Piece]) -> 
     ensures { result ≡ is_left_out names.now spot piece.now rest.now }
 {
     spot.state.skipped > 0
-        || (begins_line(spot.context, piece) && is_turn(kind_of(names, line_of(rest))))
+        || (begins_line(spot.context, piece) && is_turn(kind_here(names, spot, rest)))
 }
 
 // Whether a `#` line begins there.

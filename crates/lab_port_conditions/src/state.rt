@@ -4,7 +4,7 @@ ghost use Rattle.std.specs.Prelude.{◌≡◌, [], if◌then◌else◌, IfOk, On
 ghost use Rattle.lab_port_context.specs.Ahead.{nth_text};
 ghost use Rattle.lab_port_conditions.specs.declared.kind.Kind.TheVariants as kinds;
 ghost use Rattle.lab_port_conditions.specs.Kinds.{ends_at};
-ghost use Rattle.lab_port_conditions.specs.States.{of_counts, lost, behind_opened, behind_written, behind_skipped, behind_kind, is_definition, definition_of, defines, names_behind, is_turn};
+ghost use Rattle.lab_port_conditions.specs.States.{of_counts, lost, behind_header, behind_opened, behind_written, behind_skipped, behind_kind, is_definition, definition_of, defines, names_behind, is_turn};
 
 use crate::kind::{Kind, ends_at};
 use lab_port_context::{deeper, nth_text};
@@ -22,6 +22,8 @@ pub struct State {
     pub opened: usize,
     /// Whether each line was understood.
     pub is_sure: bool,
+    /// Whether a header stands before it whose macros are not known.
+    pub has_unknown: bool,
 }
 
 /// Behind a `#` line of this kind.
@@ -46,6 +48,7 @@ fn behind_written(state: State, kind: Kind) -> State
         Kind::Ended => behind_opened(state, 0),
         Kind::Defined => state,
         Kind::Plain => state,
+        Kind::Included => behind_header(state),
         Kind::Unknown => lost(state),
         Kind::Turned => lost(state),
         Kind::Foreign => lost(state),
@@ -65,6 +68,7 @@ fn behind_skipped(state: State, kind: Kind) -> State
         Kind::Ended => of_counts(state, state.skipped.saturating_sub(1), state.opened),
         Kind::Defined => state,
         Kind::Plain => state,
+        Kind::Included => state,
         Kind::Foreign => state,
     }
 }
@@ -108,6 +112,7 @@ fn of_counts(state: State, skipped: usize, opened: usize) -> State
         skipped,
         opened,
         is_sure: state.is_sure,
+        has_unknown: state.has_unknown,
     }
 }
 
@@ -119,6 +124,19 @@ fn lost(state: State) -> State
         skipped: state.skipped,
         opened: state.opened,
         is_sure: false,
+        has_unknown: state.has_unknown,
+    }
+}
+
+// Behind a header whose macros are not known.
+fn behind_header(state: State) -> State
+    ensures { result ≡ behind_header state }
+{
+    State {
+        skipped: state.skipped,
+        opened: state.opened,
+        is_sure: state.is_sure,
+        has_unknown: true,
     }
 }
 

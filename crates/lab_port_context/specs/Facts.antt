@@ -66,6 +66,11 @@ is_assert _ = false
 abbrev pub is_in_body : Context → Bool
 is_in_body context = nat_lt 0 context.braces && is_code context.line
 
+-- a condition of `cpp`, or any other `#` line that is no include, define or pragma
+abbrev pub is_condition : Line → Bool
+is_condition lines.Other = true
+is_condition _ = false
+
 -- the facts with a further piece, before these
 abbrev pub facts_with : Facts → Context → Class → List Class → Facts
 facts_with facts context c rest = record {
@@ -73,6 +78,7 @@ facts_with facts context c rest = record {
   uses_arguments = facts.uses_arguments || uses_argument_at context c;
   uses_abort = facts.uses_abort || (is_abort c && is_in_body context);
   uses_assert = facts.uses_assert || (is_assert c && is_in_body context);
+  has_conditions = facts.has_conditions || is_condition context.line;
 }
 
 abbrev pub facts_from : Facts → Context → List Class → Facts
@@ -80,7 +86,13 @@ facts_from facts context [] = facts
 facts_from facts context (c ∷ rest) = facts_from (facts_with facts context c rest) (context_behind context c) rest
 
 abbrev pub no_facts : Facts
-no_facts = record { has_own = false; uses_arguments = false; uses_abort = false; uses_assert = false }
+no_facts = record {
+  has_own = false;
+  uses_arguments = false;
+  uses_abort = false;
+  uses_assert = false;
+  has_conditions = false;
+}
 
 abbrev pub facts_of : List Class → Facts
 facts_of all = facts_from no_facts at_first all

@@ -1,7 +1,7 @@
 //! What the whole source has.
 
 ghost use Rattle.std.specs.Prelude.{◌≡◌, ◌≤◌, length, take};
-ghost use Rattle.lab_port_context.specs.Facts.{in_sight, is_of_macros, is_type, is_declared, may_be_head, is_own_declaration, is_own_name, is_brought_in, is_own_at, uses_argument_at, is_assert, is_in_body, facts_with, no_facts, facts_of};
+ghost use Rattle.lab_port_context.specs.Facts.{in_sight, is_of_macros, is_type, is_declared, may_be_head, is_own_declaration, is_own_name, is_brought_in, is_own_at, uses_argument_at, is_assert, is_in_body, is_condition, facts_with, no_facts, facts_of};
 
 use crate::ahead::{Call, is_library, is_open, is_star, nth_class, statement_size};
 use crate::context::{Context, Line, at_first, context_behind, is_abort, is_code};
@@ -18,6 +18,8 @@ pub struct Facts {
     pub uses_abort: bool,
     /// Whether the body of a function names `assert`.
     pub uses_assert: bool,
+    /// Whether a `#` line stands in the source that is no include, define or pragma.
+    pub has_conditions: bool,
 }
 
 /// The facts of a source, by the classes of its pieces.
@@ -41,6 +43,7 @@ fn no_facts() -> Facts
         uses_arguments: false,
         uses_abort: false,
         uses_assert: false,
+        has_conditions: false,
     }
 }
 
@@ -54,6 +57,17 @@ fn facts_with(facts: Facts, context: Context, class: Class, rest: &[Class]) -> F
         uses_arguments: facts.uses_arguments || uses_argument_at(context, class),
         uses_abort: facts.uses_abort || (is_abort(class) && in_body),
         uses_assert: facts.uses_assert || (is_assert(class) && in_body),
+        has_conditions: facts.has_conditions || is_condition(context.line),
+    }
+}
+
+/// Whether it is a `#` line that is no include, define or pragma, as a condition.
+pub fn is_condition(line: Line) -> bool
+    ensures { result ≡ is_condition line }
+{
+    match line {
+        Line::Other => true,
+        _ => false,
     }
 }
 

@@ -19,4 +19,4 @@ pub use context::{
     Context, Line, at_first, context_behind, deeper, is_abort, is_code, is_floating_type, is_main,
     is_stdlib, is_whole_type,
 };
-pub use facts::{Facts, facts_of, in_sight, is_assert, is_type};
+pub use facts::{Facts, facts_of, in_sight, is_assert, is_condition, is_type};

@@ -5,6 +5,8 @@ use Rattle.std.specs.List.{list_any}
 use Rattle.lab_port_tokens.specs.declared.piece.Piece.{Piece}
 use Rattle.lab_port_words.specs.declared.class.Class.{Class}
 use Rattle.lab_port_words.specs.declared.class.Class.TheVariants as classes
+use Rattle.lab_port_words.specs.declared.class.Sign.TheVariants as signs
+use Rattle.lab_port_words.specs.declared.class.Storage.TheVariants as storages
 use Rattle.lab_port_words.specs.declared.class.Word.TheVariants as words
 use Rattle.lab_port_words.specs.Tables.{class_of}
 use Rattle.lab_port_context.specs.declared.context.Context.{Context}
@@ -27,10 +29,18 @@ is_name _ = false
 abbrev pub is_declared : Context → Class → Bool
 is_declared context class = (is_code context.line && is_name class) && (context.typed && context.parens == 0)
 
+-- an array in a block that has its values from the beginning (C17 6.2.4p3, 6.7.9p4), not at each time that its
+-- declaration is reached
+abbrev pub is_lasting : Spot → Bool
+is_lasting spot = spot.is_static && nat_lt 0 spot.context.braces
+
+abbrev pub gets_stores : Spot → Bool
+gets_stores spot = spot.is_free && not (is_lasting spot)
+
 -- how many pieces the list has that is given to the name here
 abbrev pub given_size : Spot → Piece → List Piece → Option ℕ
 given_size spot piece rest =
-    if spot.is_free && is_declared spot.context (class_of piece) then list_size rest else None
+    if gets_stores spot && is_declared spot.context (class_of piece) then list_size rest else None
 
 -- the `{` of `main`
 abbrev pub begins_main : Context → Class → Bool
@@ -71,12 +81,29 @@ names_with names (marks.Changed rules.FileList size) piece rest =
     names ++ (stores_here piece.text (take size rest) ∷ [])
 names_with names _ piece rest = names
 
+abbrev pub is_static : Class → Bool
+is_static (classes.Storage storages.Static) = true
+is_static _ = false
+
+-- a declaration ends, or a block begins or ends
+abbrev pub is_end : Class → Bool
+is_end (classes.Sign signs.Semicolon) = true
+is_end (classes.Sign signs.OpenBrace) = true
+is_end (classes.Sign signs.CloseBrace) = true
+is_end _ = false
+
+-- `static` stands in the declaration, behind a piece of this class
+abbrev pub static_behind : Spot → Class → Bool
+static_behind spot class =
+    (is_code spot.context.line && is_static class) || (spot.is_static && not (is_end class))
+
 -- the place behind a piece with this mark
 abbrev pub spot_behind : Spot → Mark → Piece → Spot
 spot_behind spot mark piece = record {
   context = context_behind spot.context (class_of piece);
   taken = taken_after spot.taken mark;
   filled = spot.filled || begins_main spot.context (class_of piece);
+  is_static = static_behind spot (class_of piece);
   is_free = spot.is_free;
 }
 
@@ -110,6 +137,7 @@ first_spot pieces = record {
   context = at_first;
   taken = 0;
   filled = nat_lt 1 (mains pieces);
+  is_static = false;
   is_free = not (list_any is_counter pieces);
 }
 

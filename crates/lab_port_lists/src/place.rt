@@ -2,7 +2,7 @@
 
 ghost use Rattle.std.specs.Prelude.{◌≡◌, ◌≤◌, length, take, IfOk, OnOk, IfSome};
 ghost use Rattle.std.specs.List.{list_any};
-ghost use Rattle.lab_port_lists.specs.Places.{is_name, is_declared, given_size, begins_main, is_empty, fill_mark, list_mark, mark_by, mark_here, stores_here, names_with, spot_behind, is_counter, mains, first_spot, list_marks, lists_of};
+ghost use Rattle.lab_port_lists.specs.Places.{is_name, is_declared, is_lasting, gets_stores, given_size, begins_main, is_empty, fill_mark, list_mark, mark_by, mark_here, stores_here, names_with, is_static, is_end, static_behind, spot_behind, is_counter, mains, first_spot, list_marks, lists_of};
 
 use crate::array::stores_text;
 use crate::shape::list_size;
@@ -10,7 +10,7 @@ use crate::value::is_open_brace;
 use lab_port_context::{Context, at_first, context_behind, is_code, is_main};
 use lab_port_rules::{Mark, Meaning, Rule, taken_after};
 use lab_port_tokens::Piece;
-use lab_port_words::{Class, Word, class_of};
+use lab_port_words::{Class, Sign, Storage, Word, class_of};
 use om_seq::{AllocResult, Seq};
 use std::alloc::Global;
 
@@ -32,6 +32,8 @@ pub struct Spot {
     pub taken: usize,
     /// Whether `main` has begun, or begins more than once.
     pub filled: bool,
+    /// Whether `static` stands in the declaration before it.
+    pub is_static: bool,
     /// Whether the source has no name that the rule brings in.
     pub is_free: bool,
 }
@@ -68,6 +70,7 @@ fn first_spot(pieces: &[Piece]) -> Spot
         context: at_first(),
         taken: 0,
         filled: mains(pieces) > 1,
+        is_static: false,
         is_free: !has_counter(pieces),
     }
 }
@@ -144,11 +147,24 @@ fn given_size(spot: Spot, piece: &Piece, rest: &[Piece]) -> Option<usize>
     ensures size { result ≡ given_size spot piece.now rest.now }
     ensures inside { IfSome result (λ size. size ≤ length rest.now) }
 {
-    if spot.is_free && is_declared(spot.context, class_of(piece)) {
+    if gets_stores(spot) && is_declared(spot.context, class_of(piece)) {
         list_size(rest)
     } else {
         None
     }
+}
+
+fn gets_stores(spot: Spot) -> bool
+    ensures { result ≡ gets_stores spot }
+{
+    spot.is_free && !is_lasting(spot)
+}
+
+// Whether an array there has its values from the beginning, and not at each time that its declaration is reached.
+fn is_lasting(spot: Spot) -> bool
+    ensures { result ≡ is_lasting spot }
+{
+    spot.is_static && spot.context.braces > 0
 }
 
 // Whether a name is declared there directly behind its type, in no parameter and no `for`.
@@ -225,6 +241,33 @@ fn spot_behind(spot: Spot, mark: Mark, piece: &Piece) -> Spot
         context: context_behind(spot.context, class),
         taken: taken_after(spot.taken, mark),
         filled: spot.filled || begins_main(spot.context, class),
+        is_static: static_behind(spot, class),
         is_free: spot.is_free,
+    }
+}
+
+// Whether `static` stands in the declaration, behind a piece of this class.
+fn static_behind(spot: Spot, class: Class) -> bool
+    ensures { result ≡ static_behind spot class }
+{
+    (is_code(spot.context.line) && is_static(class)) || (spot.is_static && !is_end(class))
+}
+
+fn is_static(class: Class) -> bool
+    ensures { result ≡ is_static class }
+{
+    match class {
+        Class::Storage(Storage::Static) => true,
+        _ => false,
+    }
+}
+
+// Whether a declaration ends there, or a block begins or ends.
+fn is_end(class: Class) -> bool
+    ensures { result ≡ is_end class }
+{
+    match class {
+        Class::Sign(Sign::Semicolon | Sign::OpenBrace | Sign::CloseBrace) => true,
+        _ => false,
     }
 }

@@ -6,6 +6,7 @@ use Rattle.lab_port_context.specs.declared.context.Line.{Line}
 use Rattle.lab_port_context.specs.declared.context.Line.TheVariants as lines
 use Rattle.lab_port_context.specs.declared.context.Context.{Context}
 use Rattle.lab_port_context.specs.Contexts.{context_behind, at_first}
+use Rattle.lab_port_context.specs.Facts.{is_condition}
 use Rattle.lab_port_rules.specs.declared.rule.Meaning.{Meaning}
 use Rattle.lab_port_rules.specs.declared.rule.Rule.TheVariants as rules
 use Rattle.lab_port_rules.specs.declared.mark.Mark.{Mark}
@@ -14,12 +15,8 @@ use Rattle.lab_port_rules.specs.Marks.{taken_after}
 use Rattle.lab_port_names.specs.declared.definition.Definition.{Definition}
 use Rattle.lab_port_names.specs.declared.uses.Spot.{Spot}
 use Rattle.lab_port_names.specs.Sights.{is_word}
-use Rattle.lab_port_names.specs.Names.{is_known}
+use Rattle.lab_port_names.specs.Names.{is_known, are_tangled}
 use Rattle.lab_port_names.specs.Definitions.{definition_at}
-
-abbrev pub is_condition : Line → Bool
-is_condition lines.Other = true
-is_condition _ = false
 
 -- a `#` line that is no include, define or pragma stands among the pieces that follow, so that a condition or an `#undef`
 -- may decide what a name stands for
@@ -46,7 +43,7 @@ abbrev pub mark_by : Option Definition → List Meaning → Context → Piece �
 mark_by None names context piece = word_mark names context piece
 mark_by (Some found) names context piece = marks.Changed found.rule found.size
 
--- what is defined here; nothing where a condition may decide it
+-- what is defined here; nothing in a source whose names are not sure
 abbrev pub found_at : List Meaning → Spot → Piece → List Piece → Option Definition
 found_at names spot piece rest =
     if spot.is_sure then definition_at names spot.context piece rest else None
@@ -74,8 +71,8 @@ spot_behind spot mark piece = record {
   is_sure = spot.is_sure;
 }
 
-abbrev pub first_spot : List Piece → Spot
-first_spot pieces = record { context = at_first; taken = 0; is_sure = not (has_condition at_first pieces) }
+abbrev pub first_spot : Bool → Spot
+first_spot sure = record { context = at_first; taken = 0; is_sure = sure }
 
 -- the marks of the pieces that follow
 abbrev pub marks_from : List Meaning → Spot → List Piece → List Mark
@@ -90,10 +87,15 @@ names_from names spot [] = names
 names_from names spot (piece ∷ rest) =
     names_from (names_here names spot piece rest) (spot_behind spot (mark_here names spot piece rest) piece) rest
 
+-- each name stands for one text wherever it is used
+abbrev pub is_sure : List Piece → Bool
+is_sure pieces =
+    not (has_condition at_first pieces) && not (are_tangled (names_from [] (first_spot true) pieces))
+
 -- the marks of the pieces of a source: where names are defined and where they stand
 abbrev pub name_marks : List Piece → List Mark
-name_marks pieces = marks_from [] (first_spot pieces) pieces
+name_marks pieces = marks_from [] (first_spot (is_sure pieces)) pieces
 
 -- the names of a source that are written out
 abbrev pub names_of : List Piece → List Meaning
-names_of pieces = names_from [] (first_spot pieces) pieces
+names_of pieces = names_from [] (first_spot (is_sure pieces)) pieces

@@ -1,14 +1,14 @@
 //! Where the names of a source are defined, and where they stand.
 
-ghost use Rattle.std.specs.Prelude.{◌≡◌, IfOk, OnOk};
+ghost use Rattle.std.specs.Prelude.{◌≡◌, [], IfOk, OnOk};
 ghost use Rattle.lab_port_context.specs.Contexts.{at_first};
-ghost use Rattle.lab_port_names.specs.Uses.{is_condition, has_condition, is_expanded, word_mark, mark_here, mark_by, names_by, names_here, found_at, spot_behind, first_spot, name_marks, names_of};
+ghost use Rattle.lab_port_names.specs.Uses.{has_condition, is_expanded, word_mark, mark_here, mark_by, names_by, names_here, found_at, spot_behind, first_spot, marks_from, names_from, is_sure, name_marks, names_of};
 
 use crate::defined::definition_at;
 use crate::definition::Definition;
-use crate::names::is_known;
+use crate::names::{are_tangled, is_known};
 use crate::sights::is_word;
-use lab_port_context::{Context, Line, at_first, context_behind};
+use lab_port_context::{Context, Line, at_first, context_behind, is_condition};
 use lab_port_rules::{Mark, Meaning, Rule, taken_after};
 use lab_port_tokens::Piece;
 use lab_port_words::class_of;
@@ -31,7 +31,7 @@ pub struct Spot {
     pub context: Context,
     /// How many pieces that follow are taken by the rule of an earlier one.
     pub taken: usize,
-    /// Whether no condition of `cpp` may decide what names stand for.
+    /// Whether each name stands for one text wherever it is used.
     pub is_sure: bool,
 }
 
@@ -40,7 +40,30 @@ pub fn name_marks(alloc: Global, pieces: &[Piece]) -> AllocResult<Named>
     ensures names { IfOk result (λ found. found.names ≡ names_of pieces.now) }
     ensures marks { IfOk result (λ found. found.marks.items ≡ name_marks pieces.now) }
 {
-    let mut spot = first_spot(pieces);
+    let sure = is_sure(alloc, pieces)?;
+    names_and_marks(alloc, sure, pieces)
+}
+
+// Whether no condition of `cpp`, and no name behind a text that has it, may decide what names stand for.
+fn is_sure(alloc: Global, pieces: &[Piece]) -> AllocResult<bool>
+    ensures { IfOk result (λ sure. sure ≡ is_sure pieces.now) }
+{
+    if has_condition(pieces) {
+        return Ok(false);
+    }
+    let found = names_and_marks(alloc, true, pieces)?;
+    let tangled = are_tangled(alloc, found.names.as_slice())?;
+    Ok(!tangled)
+}
+
+// The names of a source that are sure or not, and where they stand.
+fn names_and_marks(alloc: Global, sure: bool, pieces: &[Piece]) -> AllocResult<Named>
+    ensures names { IfOk result
+        (λ found. found.names ≡ names_from [] (first_spot sure) pieces.now) }
+    ensures marks { IfOk result
+        (λ found. found.marks.items ≡ marks_from [] (first_spot sure) pieces.now) }
+{
+    let mut spot = first_spot(sure);
     let mut names = Seq::new(alloc);
     let mut marks = Vec::new(alloc);
     for (i, piece) in pieces.iter().enumerate() {
@@ -65,22 +88,13 @@ pub fn has_condition(pieces: &[Piece]) -> bool
     false
 }
 
-fn is_condition(line: Line) -> bool
-    ensures { result ≡ is_condition line }
-{
-    match line {
-        Line::Other => true,
-        _ => false,
-    }
-}
-
-fn first_spot(pieces: &[Piece]) -> Spot
-    ensures { result ≡ first_spot pieces.now }
+fn first_spot(sure: bool) -> Spot
+    ensures { result ≡ first_spot sure }
 {
     Spot {
         context: at_first(),
         taken: 0,
-        is_sure: !has_condition(pieces),
+        is_sure: sure,
     }
 }
 
@@ -102,7 +116,7 @@ fn mark_here(
     mark_by(names, found, spot.context, piece)
 }
 
-// What is defined there; nothing where a condition may decide it.
+// What is defined there; nothing in a source whose names are not sure.
 fn found_at(
     alloc: Global,
     names: &[Meaning],

@@ -66,9 +66,12 @@ include_rule facts context rest =
     else if defines_assert facts rest then rules.DefineAssert
     else rules.Include
 
+-- while a condition stays, the headers stay that may decide it
 abbrev pub include_mark : Facts → Context → List Class → Mark
 include_mark facts context rest =
-    if includes_header rest then changed_by (header_size 0 rest) (include_rule facts context rest) else marks.Kept
+    if includes_header rest && not facts.has_conditions
+    then changed_by (header_size 0 rest) (include_rule facts context rest)
+    else marks.Kept
 
 abbrev pub is_schedule : Class → Bool
 is_schedule (classes.Clause words.Schedule) = true

@@ -17,7 +17,7 @@ use lab_port_words::{Class, Clause, Form, Hash, Lack, Sign, Storage};
 pub(crate) fn include_mark(facts: Facts, context: Context, rest: &[Class]) -> Mark
     ensures { result ≡ include_mark facts context rest.now }
 {
-    if !includes_header(rest) {
+    if !includes_header(rest) || facts.has_conditions {
         return Mark::Kept;
     }
     changed_by(header_size(rest), include_rule(facts, context, rest))

@@ -7,7 +7,7 @@ use Rattle.lab_port_words.specs.declared.class.Class.TheVariants as classes
 use Rattle.lab_port_words.specs.Tables.{class_of}
 use Rattle.lab_port_context.specs.declared.context.Context.{Context}
 use Rattle.lab_port_context.specs.Contexts.{context_behind, at_first, deeper, is_code}
-use Rattle.lab_port_context.specs.Ahead.{nth_text, is_comma, is_star}
+use Rattle.lab_port_context.specs.Ahead.{nth_text, is_close, is_comma, is_star}
 use Rattle.lab_port_sizes.specs.Shapes.{is_nth}
 
 abbrev pub is_of_type : Class → Bool
@@ -15,10 +15,15 @@ is_of_type (classes.Type word) = true
 is_of_type (classes.Storage word) = true
 is_of_type _ = false
 
--- something may be declared here: behind a word of a type, a star, or a comma outside of parentheses
+-- `))`, with which an attribute ends, stands before
+abbrev pub is_behind_attribute : Context → Bool
+is_behind_attribute context = is_close context.last && is_close context.before
+
+-- something may be declared here: behind a word of a type, an attribute, a star, or a comma outside of parentheses
 abbrev pub may_declare : Context → Bool
 may_declare context =
-    is_of_type context.last || (is_star context.last || (is_comma context.last && context.parens == 0))
+    (is_of_type context.last || is_behind_attribute context)
+    || (is_star context.last || (is_comma context.last && context.parens == 0))
 
 -- an array with a length of one token, outside of parentheses
 abbrev pub is_array : Context → List Piece → Bool

@@ -2,11 +2,11 @@
 
 ghost use Rattle.std.specs.Prelude.{◌≡◌, [], if◌then◌else◌};
 ghost use Rattle.lab_port_context.specs.Ahead.{nth_text};
-ghost use Rattle.lab_port_sizes.specs.Lengths.{is_of_type, may_declare, is_array, is_place, places_in, length_in, length_of};
+ghost use Rattle.lab_port_sizes.specs.Lengths.{is_of_type, is_behind_attribute, may_declare, is_array, is_place, places_in, length_in, length_of};
 
 use crate::shape::is_nth;
 use lab_port_context::{
-    Context, at_first, context_behind, deeper, is_code, is_comma, is_star, nth_text,
+    Context, at_first, context_behind, deeper, is_close, is_code, is_comma, is_star, nth_text,
 };
 use lab_port_tokens::Piece;
 use lab_port_words::{Class, class_of};
@@ -70,12 +70,19 @@ fn is_place(name: &[u8], context: Context, piece: &Piece) -> bool
     (is_code(context.line) && piece.text.as_slice() == name) && may_declare(context)
 }
 
-// Whether a word of a type, a star, or a comma outside of parentheses stands before it.
+// Whether a word of a type, an attribute, a star, or a comma outside of parentheses stands before it.
 fn may_declare(context: Context) -> bool
     ensures { result ≡ may_declare context }
 {
-    is_of_type(context.last)
+    (is_of_type(context.last) || is_behind_attribute(context))
         || (is_star(context.last) || (is_comma(context.last) && context.parens == 0))
+}
+
+// Whether `))` stands before it, with which an attribute ends.
+fn is_behind_attribute(context: Context) -> bool
+    ensures { result ≡ is_behind_attribute context }
+{
+    is_close(context.last) && is_close(context.before)
 }
 
 // Whether an array with a length of one token stands there, outside of parentheses.

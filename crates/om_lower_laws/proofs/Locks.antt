@@ -1,14 +1,14 @@
--- No two locks have one name: their table has each name once.
+-- No two locks have one name, and each directive has the lock of its name: their table has each name once.
 use Rattle.std.proofs.Common.{◌≡◌, ℕ, zero, suc, Bool, true, false, List, [], ◌∷◌, ◌++◌, Some, refl, sym, ap, ◌∙◌}
 use Rattle.std.specs.Prelude.{slice_get, fold, ◌||◌, if◌then◌else◌}
 use Rattle.std.specs.List.{list_any}
 use Rattle.std.specs.Str.{bytes_eq}
 use Rattle.std.proofs.lemmas.List.Folds.{list_any-append}
 use Rattle.std.proofs.lemmas.Slice.Eq.{bytes_eq-Decides}
-use Rattle.om_lower_rules.specs.Mentions.{lock_mention, locks_of, tree_mentioned}
-use Rattle.om_lower_rules.specs.Tables.{with_sight}
-use Rattle.om_lower_laws.specs.LockLaws.{LocksDiffer}
-use Rattle.om_lower_laws.proofs.Tables.{neither}
+use Rattle.om_lower_rules.specs.Mentions.{lock_mention, lock_name, locks_of, tree_mentioned}
+use Rattle.om_lower_rules.specs.Tables.{number_in, with_sight}
+use Rattle.om_lower_laws.specs.LockLaws.{DirectivesHaveLocks, LocksDiffer}
+use Rattle.om_lower_laws.proofs.Tables.{fold_keeps, neither, number_found, sight_new}
 
 -- each once
 abbrev AreApart : List (List ℕ) → Type 0
@@ -79,3 +79,21 @@ pub locks_differ : LocksDiffer
 locks_differ tree raw i j name code e g =
     one_place (locks_of tree) i j name (fold_apart (tree_mentioned lock_mention tree) [] tt)
     (ap (λ locks. slice_get locks i) (sym code.locks) ∙ e) (ap (λ locks. slice_get locks j) (sym code.locks) ∙ g)
+
+-- ---- each name is there
+
+name_found : (xs found : List (List ℕ)) (k : ℕ) (x : List ℕ) → slice_get xs k ≡ Some x
+    → list_any (bytes_eq x) (fold (with_sight bytes_eq) found xs) ≡ true
+name_found [] found k x e = absurd cc
+name_found (y ∷ ys) found zero x e =
+    let same : y ≡ x = cc e in
+    fold_keeps bytes_eq (bytes_eq x) ys (with_sight bytes_eq found y)
+    (ap (λ z. list_any (bytes_eq z) (with_sight bytes_eq found y)) (sym same)
+    ∙ sight_new bytes_eq found y (equal_bytes y y refl))
+name_found (y ∷ ys) found (suc k) x e = name_found ys (with_sight bytes_eq found y) k x e
+
+pub directives_have_locks : DirectivesHaveLocks
+directives_have_locks tree raw b body k name code e =
+    ap (λ locks. slice_get locks (number_in (bytes_eq (lock_name name)) (locks_of tree))) code.locks
+    ∙ number_found bytes_eq same_bytes (lock_name name) (locks_of tree)
+    (name_found (tree_mentioned lock_mention tree) [] k (lock_name name) e)

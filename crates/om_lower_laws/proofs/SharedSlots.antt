@@ -4,6 +4,7 @@ use Rattle.std.specs.Prelude.{All, nat_eq, option_map, slice_get, if◌then◌el
 use Rattle.std.specs.List.{AllZip, flat_map}
 use Rattle.std.proofs.lemmas.List.Elements.{All-head, All-tail}
 use Rattle.std.proofs.lemmas.Option.{slice_get-map}
+use Rattle.std.proofs.lemmas.Bool.{eqb-true}
 use Rattle.om_code.specs.declared.raw.Body.{Body}
 use Rattle.om_code.specs.declared.raw.Raw.{Raw}
 use Rattle.om_code.specs.declared.raw.Source.TheVariants.{Own, Outer}
@@ -41,7 +42,7 @@ module _ (tree : ResolvedTree) (raw : Raw) (b : BodySite) (body : Body) (is : Is
       let outside : ℕ = slot_of b.outer x in
       let with = slot_with (extents_of b.function) b.outer captures in
       let named : slice_get (variables_of b) inside ≡ Some x =
-      number_found x (variables_of b) (taken (variables_of b) captures x (seen b.function b.tree takes) shared) in
+      number_found nat_eq eqb-true x (variables_of b) (taken (variables_of b) captures x (seen b.function b.tree takes) shared) in
       let slot : slice_get body.slots inside ≡ Some (with x) =
       ap (λ slots. slice_get slots inside) is.slots ∙ slice_get-map with (variables_of b) inside
       ∙ ap (option_map with) named in
@@ -49,7 +50,7 @@ module _ (tree : ResolvedTree) (raw : Raw) (b : BodySite) (body : Body) (is : Is
         inside = inside;
         outside = outside;
         named = named;
-        found = number_found x b.outer (taken b.outer captures x here shared);
+        found = number_found nat_eq eqb-true x b.outer (taken b.outer captures x here shared);
         shared = (with x, slot, ap (λ z. if z then Outer (slot_of b.outer x) else Own) shared);
       }
 

@@ -43,7 +43,7 @@ stands_outside outer captures x k h e = by (list_any (shares x) captures) refl e
         → slice_get outer k ≡ Some x
     by true shared e =
         let same : slot_of outer x ≡ k = cc e in
-        subst (λ n. slice_get outer n ≡ Some x) same (number_found x outer (taken outer captures x h shared))
+        subst (λ n. slice_get outer n ≡ Some x) same (number_found nat_eq eqb-true x outer (taken outer captures x h shared))
     by false shared e = absurd cc
 
 -- what stands in a list of images is the image of what stands there

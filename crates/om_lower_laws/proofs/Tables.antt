@@ -8,17 +8,18 @@ use Rattle.std.proofs.lemmas.List.Folds.{list_any-append}
 use Rattle.om_lower_rules.specs.Tables.{with_sight, table_of, number_in}
 
 -- the number of what is in a table leads to it
-pub number_found : (x : ℕ) (xs : List ℕ) → list_any (nat_eq x) xs ≡ true
-    → slice_get xs (number_in (nat_eq x) xs) ≡ Some x
-number_found x [] e = absurd cc
-number_found x (y ∷ ys) e = first (λ more. number_found x ys more) (nat_eq x y) refl e
+pub number_found : {A : Type 0} (same : A → A → Bool) (decides : (x y : A) → same x y ≡ true → x ≡ y) (x : A) (xs : List A)
+    → list_any (same x) xs ≡ true → slice_get xs (number_in (same x) xs) ≡ Some x
+number_found {A} same decides x [] e = absurd cc
+number_found {A} same decides x (y ∷ ys) e =
+    first (λ more. number_found same decides x ys more) (same x y) refl e
   where
-    first : (list_any (nat_eq x) ys ≡ true → slice_get ys (number_in (nat_eq x) ys) ≡ Some x)
-        → (b : Bool) → nat_eq x y ≡ b → (b || list_any (nat_eq x) ys) ≡ true
-        → slice_get (y ∷ ys) (if b then 0 else number_in (nat_eq x) ys + 1) ≡ Some x
-    first behind true same e = ap (λ z. Some z) (sym (eqb-true x y same))
-    first behind false same e =
-        let next : number_in (nat_eq x) ys + 1 ≡ suc (number_in (nat_eq x) ys) = omega arith in
+    first : (list_any (same x) ys ≡ true → slice_get ys (number_in (same x) ys) ≡ Some x)
+        → (b : Bool) → same x y ≡ b → (b || list_any (same x) ys) ≡ true
+        → slice_get (y ∷ ys) (if b then 0 else number_in (same x) ys + 1) ≡ Some x
+    first behind true is e = ap (λ z. Some z) (sym (decides x y is))
+    first behind false is e =
+        let next : number_in (same x) ys + 1 ≡ suc (number_in (same x) ys) = omega arith in
         ap (λ z. slice_get (y ∷ ys) z) next ∙ behind e
 
 -- what stands at a place of a list is in it
@@ -50,32 +51,34 @@ pub has_both : (table xs ys : List ℕ) → Has table xs → Has table ys → Ha
 has_both table [] ys h k = k
 has_both table (x ∷ xs) ys h k = (h.0, has_both table xs ys h.1 k)
 
-sight_keeps : (is : ℕ → Bool) (found : List ℕ) (x : ℕ) → list_any is found ≡ true
-    → list_any is (with_sight nat_eq found x) ≡ true
-sight_keeps is found x e = kept (list_any (nat_eq x) found)
+sight_keeps : {A : Type 0} (same : A → A → Bool) (is : A → Bool) (found : List A) (x : A) → list_any is found ≡ true
+    → list_any is (with_sight same found x) ≡ true
+sight_keeps {A} same is found x e = kept (list_any (same x) found)
   where
     kept : (b : Bool) → list_any is (if b then found else found ++ x ∷ []) ≡ true
     kept true = e
     kept false = list_any-append is found (x ∷ []) ∙ ap (λ z. z || list_any is (x ∷ [])) e
 
-sight_new : (found : List ℕ) (x : ℕ) → list_any (nat_eq x) (with_sight nat_eq found x) ≡ true
-sight_new found x = new (list_any (nat_eq x) found) refl
+pub sight_new : {A : Type 0} (same : A → A → Bool) (found : List A) (x : A) → same x x ≡ true
+    → list_any (same x) (with_sight same found x) ≡ true
+sight_new {A} same found x itself = new (list_any (same x) found) refl
   where
-    new : (b : Bool) → list_any (nat_eq x) found ≡ b
-        → list_any (nat_eq x) (if b then found else found ++ x ∷ []) ≡ true
+    new : (b : Bool) → list_any (same x) found ≡ b
+        → list_any (same x) (if b then found else found ++ x ∷ []) ≡ true
     new true e = e
-    new false e = list_any-append (nat_eq x) found (x ∷ []) ∙ ap (λ z. z || (nat_eq x x || false)) e
-        ∙ ap (λ z. z || false) (eq-eqb x x refl)
+    new false e = list_any-append (same x) found (x ∷ []) ∙ ap (λ z. z || (same x x || false)) e
+        ∙ ap (λ z. z || false) itself
 
-fold_keeps : (is : ℕ → Bool) (xs found : List ℕ) → list_any is found ≡ true
-    → list_any is (fold (with_sight nat_eq) found xs) ≡ true
-fold_keeps is [] found e = e
-fold_keeps is (x ∷ xs) found e = fold_keeps is xs (with_sight nat_eq found x) (sight_keeps is found x e)
+pub fold_keeps : {A : Type 0} (same : A → A → Bool) (is : A → Bool) (xs found : List A) → list_any is found ≡ true
+    → list_any is (fold (with_sight same) found xs) ≡ true
+fold_keeps {A} same is [] found e = e
+fold_keeps {A} same is (x ∷ xs) found e =
+    fold_keeps same is xs (with_sight same found x) (sight_keeps same is found x e)
 
 fold_has : (xs found : List ℕ) → Has (fold (with_sight nat_eq) found xs) xs
 fold_has [] found = tt
 fold_has (x ∷ xs) found = (
-  fold_keeps (nat_eq x) xs (with_sight nat_eq found x) (sight_new found x),
+  fold_keeps nat_eq (nat_eq x) xs (with_sight nat_eq found x) (sight_new nat_eq found x (eq-eqb x x refl)),
   fold_has xs (with_sight nat_eq found x),
 )
 

@@ -1,7 +1,7 @@
 //! Laws of the code that a tree has by the rows.
 
 ghost use Rattle.om_lower_laws.specs.CellLaws.{DeclaredCells};
-ghost use Rattle.om_lower_laws.specs.LockLaws.{LocksDiffer};
+ghost use Rattle.om_lower_laws.specs.LockLaws.{DirectivesHaveLocks, LocksDiffer};
 ghost use Rattle.om_lower_laws.specs.ShareLaws.{SharedHaveSlots, SharedStandOutside};
 
 use om_scope_rules::laws::places_stand_in_order;
@@ -29,4 +29,9 @@ pub fn declarators_give_cells()
 /// No two locks of lowered code have one name: critical regions of different names have different locks.
 pub fn locks_differ()
     ensures { LocksDiffer }
+{}
+
+/// The code of a `critical` directive has the lock of the directive's name.
+pub fn directives_have_locks()
+    ensures { DirectivesHaveLocks }
 {}

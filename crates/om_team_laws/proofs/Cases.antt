@@ -40,11 +40,12 @@ use Rattle.om_task.specs.Rules.{outcome_after}
 use Rattle.om_task.specs.Tasks.{born, task_context}
 use Rattle.om_team_laws.specs.Criticals.{openings}
 use Rattle.om_team_laws.specs.Works.{hands}
+use Rattle.om_team_laws.proofs.Owned.{KeepsOwn}
 use Rattle.om_team_laws.proofs.Regions.{singles}
 use Rattle.om_team_laws.proofs.Traced.{AreUntraced}
 
--- a context that is still of the same task and team, has as many critical regions of each lock open, and no more
--- `single` regions
+-- a context that is still of the same task and team, has as many critical regions of each lock open, no more
+-- `single` regions, and its own chunks
 pub record IsLike (a b : Context) : Type 0 where
   pub task : b.task ≡ a.task
   pub kind : b.kind ≡ a.kind
@@ -52,6 +53,7 @@ pub record IsLike (a b : Context) : Type 0 where
   pub births : a.births ≤ b.births
   pub openings : (lock : ℕ) → openings lock b.constructs ≡ openings lock a.constructs
   pub singles : (which : Bool) → singles which b.constructs ≤ singles which a.constructs
+  pub own : KeepsOwn a b
 
 -- a control whose running context is like that of a stack, with the same ones below, or one that has ended
 abbrev pub IsQuiet : Stack → controls.Control → Type 0

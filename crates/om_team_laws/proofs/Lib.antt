@@ -1,5 +1,6 @@
 mod Traced
 mod Regions
+mod Owned
 mod Cases
 mod Likes
 mod TeamRows
@@ -10,6 +11,10 @@ mod Behind
 mod Tallies
 mod Exclusion
 mod Works
+mod Chunks
+mod Advancing
+mod Coming
+mod Statics
 mod Hands
 mod Shared
 mod Singles
@@ -22,4 +27,9 @@ mod TaskCases
 mod Stages
 mod Waiting
 mod Asking
+mod Awaiting
+mod Counted
+mod Naming
+mod Sets
+mod Children
 mod Combining

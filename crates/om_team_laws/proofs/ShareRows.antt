@@ -34,9 +34,12 @@ use Rattle.om_team_worksharing.specs.Rows.{given_row, grab_row, is_critical, is_
 use Rattle.om_team_worksharing.specs.Rows.{iterate_row, iteration_row, leave_critical_row, lock_row, loop_of, loop_row}
 use Rattle.om_team_worksharing.specs.Rows.{masked_row, open_row, opened, pick_row, section_row, sections_row, share_in}
 use Rattle.om_team_worksharing.specs.Rows.{single_row, taken_row}
+use Rattle.om_team_laws.specs.Statics.{size_in}
 use Rattle.om_team_laws.specs.Works.{is_dynamic}
+use Rattle.om_team_laws.proofs.Advancing.{taken_advances}
 use Rattle.om_team_laws.proofs.Cases.{Covers}
-use Rattle.om_team_laws.proofs.Likes.{like_close, like_open, like_replace}
+use Rattle.om_team_laws.proofs.Likes.{like_begun, like_close, like_open, like_replace}
+use Rattle.om_team_laws.proofs.Owned.{Advances, IsFresh, next_advances, not_explicit}
 use Rattle.om_team_laws.proofs.Regions.{HasNoFurther, IsOther, begun_next, closed_hands, no_chunk, not_dynamic}
 use Rattle.om_team_laws.proofs.Regions.{replaced_hands}
 use Rattle.om_team_laws.proofs.TeamRows.{Meets, go, if_meets}
@@ -49,43 +52,48 @@ module _ (worker : ℕ) (stack : Stack) (s : State) (P : List Access → Row →
 
   -- ---- loops and sections
 
-  open_meets : (to takes : ℕ) (share : Share) → share.end ≡ 0 → Met (open_row worker to takes stack.top share)
+  open_meets : (to takes : ℕ) (share : Share) → IsFresh stack.top share → Met (open_row worker to takes stack.top share)
   open_meets to takes share e =
       if_meets worker stack s P k (is_misplaced stack.top) _ _ (λ is. k.faults [] fault.Nesting)
       (λ is. k.goes _ (begun to takes (construct.Share share)) _ (refl, tt) (
-        like_open stack.top _ (construct.Share share) (record { task = refl; kind = refl; team = refl; births = omega arith }) refl
-            (λ lock. refl) (λ which. refl),
+        like_begun stack.top _ share refl refl refl refl refl refl e
+            (not_explicit stack.top.kind stack.top.constructs is),
         refl,
-      ) (λ region iteration. let none = no_chunk share e region iteration in omega (arith, none)))
+      ) (λ region iteration. let none = no_chunk share e.no_end region iteration in omega (arith, none)))
 
   pub loop_meets : (to : ℕ) (form : LoopForm) (lower upper : Option ℤ)
       → Met (loop_row worker to stack.top form lower upper)
   loop_meets to form (Some lower) (Some upper) =
       if_meets worker stack s P k (is_right_form form) _ _
-      (λ is. open_meets to 2 (loop_of stack.top.regions form lower upper) refl) (λ is. k.lacks [])
+      (λ is. open_meets to 2 (loop_of stack.top.regions form lower upper) (record { of_region = refl; no_next = refl; no_end = refl })) (λ is. k.lacks [])
   loop_meets to form (Some lower) None = k.lacks []
   loop_meets to form None upper = k.lacks []
 
   pub sections_meets : (to n : ℕ) → Met (sections_row worker to stack.top n)
   sections_meets to n =
-      open_meets to 0 (opened sharing.Sections stack.top.regions n (pos 0) (pos 1) (schedule.Dynamic 1)) refl
+      open_meets to 0 (opened sharing.Sections stack.top.regions n (pos 0) (pos 1) (schedule.Dynamic 1))
+      (record { of_region = refl; no_next = refl; no_end = refl })
 
   -- the innermost share is replaced by one with no iteration more
   replaced : (names : List Access) (to : ℕ) (share other : Share) (us : List Update)
-      → share_in stack.top ≡ Some share → HasNoFurther share other → AreUntraced names
+      → share_in stack.top ≡ Some share → HasNoFurther share other
+      → Advances stack.top.team stack.top.kind share other → AreUntraced names
       → P names (row.Goes (edits to 0 (Replace (construct.Share other))) us)
-  replaced names to share other us e less h =
+  replaced names to share other us e less on h =
       k.goes names (edits to 0 (Replace (construct.Share other))) us h (
-        like_replace stack.top _ share other (record { task = refl; kind = refl; team = refl; births = omega arith }) refl e,
+        like_replace stack.top _ share other (record { task = refl; kind = refl; team = refl; births = omega arith; regions = refl }) refl e on,
         refl,
       ) (replaced_hands stack.top.constructs share other e less)
 
   taken_meets : (to otherwise : ℕ) (share : Share) (chunk : Option Chunk) → share_in stack.top ≡ Some share
-      → is_dynamic share.schedule ≡ false → P [] (taken_row to otherwise share chunk)
-  taken_meets to otherwise share (Some chunk) e f =
+      → is_dynamic share.schedule ≡ false
+      → static_chunk (size_in share.schedule) share.count stack.top.team.size stack.top.team.number share.taken ≡ chunk
+      → P [] (taken_row to otherwise share chunk)
+  taken_meets to otherwise share (Some chunk) e f g =
       let other : Share = record share { taken = share.taken + 1; next = chunk.first; end = chunk.end } in
-      replaced [] to share other [] e (not_dynamic share other f) tt
-  taken_meets to otherwise share None e f = go worker stack s P k [] otherwise 0 None [] tt
+      replaced [] to share other [] e (not_dynamic share other f)
+      (taken_advances stack.top.team stack.top.kind share chunk f g) tt
+  taken_meets to otherwise share None e f g = go worker stack s P k [] otherwise 0 None [] tt
 
   given_meets : (to otherwise : ℕ) (share : Share) (size : ℕ) (chunk : Option Chunk) → share_in stack.top ≡ Some share
       → share.schedule ≡ schedule.Dynamic size
@@ -99,9 +107,11 @@ module _ (worker : ℕ) (stack : Stack) (s : State) (P : List Access → Row →
   chunk_meets to otherwise share schedule.Static e f =
       taken_meets to otherwise share
       (static_chunk None share.count stack.top.team.size stack.top.team.number share.taken) e (ap is_dynamic f)
+      (ap (λ z. static_chunk (size_in z) share.count stack.top.team.size stack.top.team.number share.taken) f)
   chunk_meets to otherwise share (schedule.StaticChunk size) e f =
       taken_meets to otherwise share
       (static_chunk (Some size) share.count stack.top.team.size stack.top.team.number share.taken) e (ap is_dynamic f)
+      (ap (λ z. static_chunk (size_in z) share.count stack.top.team.size stack.top.team.number share.taken) f)
   chunk_meets to otherwise share (schedule.Dynamic size) e f =
       given_meets to otherwise share size
       (chunk_within share.count (number_in (s (obj.Work stack.top.team.name share.region))) size) e f refl
@@ -116,6 +126,7 @@ module _ (worker : ℕ) (stack : Stack) (s : State) (P : List Access → Row →
   iteration_meets to otherwise slot share e =
       if_meets worker stack s P k (nat_lt share.next share.end) _ _
       (λ is. replaced _ to share (record share { next = share.next + 1 }) _ e (begun_next share)
+      (next_advances stack.top.team stack.top.kind share is)
       (object_untraced stack.top (place.Slot slot) 0, tt))
       (λ is. go worker stack s P k [] otherwise 0 None [] tt)
 
@@ -158,7 +169,7 @@ module _ (worker : ℕ) (stack : Stack) (s : State) (P : List Access → Row →
       → IsOther x → AreUntraced names → P names (row.Goes (edits to 0 Close) us)
   closed names to x us e o h =
       k.goes names (edits to 0 Close) us h (
-        like_close stack.top _ x (record { task = refl; kind = refl; team = refl; births = omega arith }) refl e o,
+        like_close stack.top _ x (record { task = refl; kind = refl; team = refl; births = omega arith; regions = refl }) refl e o,
         refl,
       ) (closed_hands stack.top.constructs)
 
@@ -178,8 +189,8 @@ module _ (worker : ℕ) (stack : Stack) (s : State) (P : List Access → Row →
   filtered_meets : (to otherwise : ℕ) (runs : Bool) → Met (filtered_row worker to otherwise stack.top runs)
   filtered_meets to otherwise true =
       k.goes _ (edits to 1 (Open construct.Masked)) _ (refl, tt) (
-        like_open stack.top _ construct.Masked (record { task = refl; kind = refl; team = refl; births = omega arith }) refl
-            (λ lock. refl) (λ which. refl),
+        like_open stack.top _ construct.Masked (record { task = refl; kind = refl; team = refl; births = omega arith; regions = refl }) refl
+            (λ lock. refl) (λ which. refl) (λ region iteration. refl) tt,
         refl,
       ) (λ region iteration. omega arith)
   filtered_meets to otherwise false = go worker stack s P k _ otherwise 1 None [] (refl, tt)

@@ -82,7 +82,7 @@ module _ (worker : ℕ) (stack : Stack) (s : State) (P : List Access → Row →
       → P names (goes to takes pushed us)
   go names to takes pushed us h =
       k.goes names (Go to takes pushed ∷ []) us h (
-        like_same stack.top _ (record { task = refl; kind = refl; team = refl; births = omega arith }) refl,
+        like_same stack.top _ (record { task = refl; kind = refl; team = refl; births = omega arith; regions = refl }) refl,
         refl,
       ) (λ region iteration. omega arith)
 
@@ -125,7 +125,7 @@ module _ (worker : ℕ) (stack : Stack) (s : State) (P : List Access → Row →
       if_meets (nat_le 999 (length stack.top.callers)) _ _ (λ e. k.faults [] fault.Frames)
       (λ e. k.goes _ (BeginFrame launch.to launch.takes launch.body (homes_in stack.top body.slots) ∷ []) _
       (given_untraced stack.top.task stack.top.frames body.given) (
-        like_same stack.top _ (record { task = refl; kind = refl; team = refl; births = omega arith }) refl,
+        like_same stack.top _ (record { task = refl; kind = refl; team = refl; births = omega arith; regions = refl }) refl,
         refl,
       ) (λ region iteration. omega arith))
 
@@ -139,11 +139,11 @@ module _ (worker : ℕ) (stack : Stack) (s : State) (P : List Access → Row →
       given : (v : Operand) (all : List Frame)
           → IsLike stack.top (value_given v all stack.top) × (stack.below ≡ stack.below)
       given v [] = (
-        like_same stack.top _ (record { task = refl; kind = refl; team = refl; births = omega arith }) refl,
+        like_same stack.top _ (record { task = refl; kind = refl; team = refl; births = omega arith; regions = refl }) refl,
         refl,
       )
       given v (x ∷ all) = (
-        like_same stack.top _ (record { task = refl; kind = refl; team = refl; births = omega arith }) refl,
+        like_same stack.top _ (record { task = refl; kind = refl; team = refl; births = omega arith; regions = refl }) refl,
         refl,
       )
 
@@ -218,7 +218,7 @@ module _ (worker : ℕ) (stack : Stack) (s : State) (P : List Access → Row →
   departed_meets names to b false h = k.blocked names blocked.Barrier
   departed_meets names to b true h =
       k.goes names (Go to 0 None ∷ CountPhase ∷ []) _ h (
-        like_same stack.top _ (record { task = refl; kind = refl; team = refl; births = omega arith }) refl,
+        like_same stack.top _ (record { task = refl; kind = refl; team = refl; births = omega arith; regions = refl }) refl,
         refl,
       ) (λ region iteration. omega arith)
 
@@ -319,8 +319,8 @@ module _ (worker : ℕ) (stack : Stack) (s : State) (P : List Access → Row →
   opened_meets to None = k.faults [] fault.Name
   opened_meets to (Some group) =
       k.goes _ (Go to 0 None ∷ CountBirth ∷ Open (construct.Group group) ∷ []) _ (refl, tt) (
-        like_open stack.top _ (construct.Group group) (record { task = refl; kind = refl; team = refl; births = omega arith }) refl
-            (λ lock. refl) (λ which. refl),
+        like_open stack.top _ (construct.Group group) (record { task = refl; kind = refl; team = refl; births = omega arith; regions = refl }) refl
+            (λ lock. refl) (λ which. refl) (λ region iteration. refl) tt,
         refl,
       ) (λ region iteration. omega arith)
 
@@ -334,7 +334,7 @@ module _ (worker : ℕ) (stack : Stack) (s : State) (P : List Access → Row →
   closed_meets names to false x group e g h = k.blocked names blocked.Group
   closed_meets names to true x group e g h =
       k.goes names (Go to 0 None ∷ Close ∷ []) _ h (
-        like_close stack.top _ x (record { task = refl; kind = refl; team = refl; births = omega arith }) refl e
+        like_close stack.top _ x (record { task = refl; kind = refl; team = refl; births = omega arith; regions = refl }) refl e
             (no_critical x g),
         refl,
       ) (closed_hands stack.top.constructs)

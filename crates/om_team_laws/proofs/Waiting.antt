@@ -34,7 +34,7 @@ use Rattle.om_team_worksharing.specs.Rows.{depart_row, departed, leave_row, left
 use Rattle.om_task.specs.Rules.{choice_row, departs, further_in, outcome_after, row_in, rules_of}
 use Rattle.om_team_laws.specs.Waits.{FindsAllThere}
 
-zero_count : (n : ℤ) → is_zero n ≡ true → n ≡ pos 0
+pub zero_count : (n : ℤ) → is_zero n ≡ true → n ≡ pos 0
 zero_count n e = (Decides-int_eq n (pos 0)).0 e
 
 -- ---- what an open barrier says

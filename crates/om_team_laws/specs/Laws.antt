@@ -1,14 +1,16 @@
 -- What OpenMP promises of critical regions, `single` regions, sections, loops, reductions, tasks and barriers, and is true of the runs of every
 -- program.
-use Rattle.std.specs.Prelude.{◌≡◌, ◌<◌, ◌≤◌, ◌⊎◌, ℕ, suc, List, Some, true, false}
+use Rattle.std.specs.Prelude.{◌≡◌, ◌<◌, ◌≤◌, ◌⊎◌, ℕ, suc, pos, List, Some, true, false}
 use Rattle.om_foot.specs.declared.object.Obj.TheVariants as obj
 use Rattle.om_code.specs.declared.instruction.Instr.TheVariants as i
 use Rattle.om_code.specs.declared.instruction.Place.{Place}
 use Rattle.om_code.specs.declared.instruction.Reduction.{Reduction}
 use Rattle.om_code.specs.declared.instruction.Schedule.TheVariants as schedule
 use Rattle.om_code.specs.declared.instruction.Sharing.TheVariants as sharings
+use Rattle.om_code.specs.declared.instruction.Task.TheVariants as taskings
 use Rattle.om_code.specs.declared.raw.Raw.{Raw}
 use Rattle.om_code.specs.Places.{instruction_at}
+use Rattle.om_code.specs.Validity.{IsValid}
 use Rattle.om_state.specs.declared.control.Control.TheVariants.{Running}
 use Rattle.om_state.specs.declared.control.Share.{Share}
 use Rattle.om_state.specs.declared.control.Stack.{Stack}
@@ -17,12 +19,16 @@ use Rattle.om_state.specs.declared.step.Label.{Label}
 use Rattle.om_state.specs.declared.value.Val.TheVariants.{Control}
 use Rattle.om_state.specs.Rules.{next_state, replay, replay_from}
 use Rattle.om_state.specs.State.{State}
+use Rattle.om_team_serial.specs.Objects.{innermost}
 use Rattle.om_team_worksharing.specs.Rows.{share_in}
 use Rattle.om_task.specs.Rules.{departs, rules_of, start_of}
+use Rattle.om_task.specs.Tasks.{innermost_group}
+use Rattle.om_team_laws.specs.Children.{HasChildren, IsChild}
 use Rattle.om_team_laws.specs.Criticals.{HasExclusion, IsInside}
 use Rattle.om_team_laws.specs.Reductions.{Combines}
+use Rattle.om_team_laws.specs.Statics.{AreAlike, BeginsOwn, IsOf}
 use Rattle.om_team_laws.specs.Tasks.{GoesOn, IsBegun, IsEnded, IsOrderly, task_at}
-use Rattle.om_team_laws.specs.Waits.{FindsAllThere}
+use Rattle.om_team_laws.specs.Waits.{FindsAllThere, children_left, tasks_left}
 use Rattle.om_team_laws.specs.Works.{Begins, Gives, HasTaken, IsSharedOut, OpensSingle, given_out}
 
 -- ---- critical regions (OpenMP API 5.2, section 15.2)
@@ -80,6 +86,24 @@ AllAreGivenOut = (program : Raw) (workers : ℕ) (s t : State) (l : Label) (stac
     → (given_out s stack.top.team.name share.region < given_out t stack.top.team.name share.region)
     ⊎ (share.count ≤ given_out s stack.top.team.name share.region)
 
+-- ---- loops with a static schedule (section 11.5.3)
+
+-- an iteration that a member begins lies in a chunk that the schedule gives it
+abbrev pub StaticIsOwn : Type 0
+StaticIsOwn = (program : Raw) (workers : ℕ) (ls : List Label) (s t : State) (team : List ℕ)
+    (region iteration worker : ℕ) → replay (rules_of program workers) ls ≡ Some s
+    → (b : BeginsOwn s t team region iteration worker) → (r : ℕ) × IsOf b.stack.top.team b.share r iteration
+
+-- No two steps of a run begin the same iteration: neither two of one member, nor two of members whose loops are alike.
+abbrev pub StaticOnce : Type 0
+StaticOnce = (program : Raw) (workers : ℕ) (first between : List Label) (l m : Label) (s t u v : State)
+    (team : List ℕ) (region iteration : ℕ) → replay (rules_of program workers) first ≡ Some s
+    → next_state (rules_of program workers) s l ≡ Some t → (b : BeginsOwn s t team region iteration l.worker)
+    → replay_from (rules_of program workers) t between ≡ Some u
+    → (c : BeginsOwn u v team region iteration m.worker)
+    → (b.stack.top.team.number ≡ c.stack.top.team.number)
+    ⊎ AreAlike b.stack.top.team c.stack.top.team b.share c.share → ⊥
+
 -- ---- `single` regions (section 11.1)
 
 -- no two steps of a run open the same one to run it
@@ -134,6 +158,38 @@ BarriersWait = (program : Raw) (workers : ℕ) (s t : State) (l : Label) (stack 
     → s (obj.Control l.worker) ≡ Control (Running stack) → l.choice ≡ Next
     → departs (instruction_at program stack.top.frame.body stack.top.frame.next) ≡ true
     → next_state (rules_of program workers) s l ≡ Some t → FindsAllThere s stack.top
+
+-- ---- children (sections 12.5 and 15.5)
+
+-- in each state of a run of a valid program the count of a task's children is how many of them are unfinished
+abbrev pub ChildrenAreCounted : Type 0
+ChildrenAreCounted = (program : Raw) (workers : ℕ) (ls : List Label) (s : State) → IsValid program
+    → replay (rules_of program workers) ls ≡ Some s → HasChildren s
+
+-- so a task goes on from a `taskwait` only where none of its children is unfinished
+abbrev pub ChildrenHaveEnded : Type 0
+ChildrenHaveEnded = (program : Raw) (workers : ℕ) (ls : List Label) (s t : State) (l : Label) (stack : Stack)
+    (name : List ℕ) → IsValid program → replay (rules_of program workers) ls ≡ Some s
+    → s (obj.Control l.worker) ≡ Control (Running stack) → l.choice ≡ Next
+    → instruction_at program stack.top.frame.body stack.top.frame.next ≡ Some (i.Task taskings.WaitEnd)
+    → next_state (rules_of program workers) s l ≡ Some t → IsChild s stack.top.task name → ⊥
+
+-- ---- waiting for tasks (sections 15.4 and 15.5)
+
+-- a step by which a task goes on from a `taskwait` finds that the count of its children is 0
+abbrev pub TaskwaitsWait : Type 0
+TaskwaitsWait = (program : Raw) (workers : ℕ) (s t : State) (l : Label) (stack : Stack)
+    → s (obj.Control l.worker) ≡ Control (Running stack) → l.choice ≡ Next
+    → instruction_at program stack.top.frame.body stack.top.frame.next ≡ Some (i.Task taskings.WaitEnd)
+    → next_state (rules_of program workers) s l ≡ Some t → children_left s stack.top ≡ pos 0
+
+-- and one by which it closes its innermost task group, that the count of the tasks of this group is 0
+abbrev pub GroupsWait : Type 0
+GroupsWait = (program : Raw) (workers : ℕ) (s t : State) (l : Label) (stack : Stack) (group : List ℕ)
+    → s (obj.Control l.worker) ≡ Control (Running stack) → l.choice ≡ Next
+    → instruction_at program stack.top.frame.body stack.top.frame.next ≡ Some (i.Task taskings.GroupEnd)
+    → innermost_group (innermost stack.top.constructs) ≡ Some group
+    → next_state (rules_of program workers) s l ≡ Some t → tasks_left s group ≡ pos 0
 
 -- ---- reductions (section 5.5.8)
 

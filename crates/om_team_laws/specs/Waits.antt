@@ -1,6 +1,7 @@
--- What a member finds that goes on from a barrier (OpenMP API 5.2, sections 15.3.1 and 15.3.2). Each member counts the
+-- What a member finds that goes on from a barrier, and a task that goes on from a `taskwait` or a `taskgroup` (OpenMP API
+-- 5.2, sections 15.3 to 15.5). Each member counts the
 -- barriers that it has passed, which is its phase, and those that it has reached.
-use Rattle.std.specs.Prelude.{◌≡◌, ℕ, ◌<◌, pos}
+use Rattle.std.specs.Prelude.{◌≡◌, ℕ, ◌<◌, ℤ, pos, List}
 use Rattle.om_foot.specs.declared.object.Obj.TheVariants as obj
 use Rattle.om_state.specs.declared.control.Context.{Context}
 use Rattle.om_state.specs.State.{State}
@@ -15,3 +16,11 @@ pub record FindsAllThere (s : State) (c : Context) : Type 0 where
   pub reached : (number : ℕ) → number < c.team.size → c.phase < reached_by s c number
   -- and the count of unfinished tasks that were made since the one that it passed last is 0
   pub none_pending : count_in (s (obj.Pending c.team.name c.phase)) ≡ pos 0
+
+-- what the machine counts as the unfinished children of a context's task
+abbrev pub children_left : State → Context → ℤ
+children_left s c = count_in (s (obj.Kids c.task))
+
+-- and as the unfinished tasks of a task group
+abbrev pub tasks_left : State → (group : List ℕ) → ℤ
+tasks_left s group = count_in (s (obj.Group group))

@@ -2,7 +2,12 @@
 
 ghost use Rattle.om_team_laws.specs.Laws.{StartExcludes, StepsExclude, RunsExclude, CriticalsExclude};
 ghost use Rattle.om_team_laws.specs.Laws.{RunsShareOut, GivenOnce, BegunOnce, AllAreGivenOut, SinglesRunOnce, SinglesAreRun};
+ghost use Rattle.om_team_laws.specs.Laws.{ChildrenAreCounted, ChildrenHaveEnded};
+ghost use Rattle.om_team_laws.specs.Laws.{StaticIsOwn, StaticOnce, TaskwaitsWait, GroupsWait};
 ghost use Rattle.om_team_laws.specs.Laws.{RunsAreOrderly, TasksGoOn, TasksBeginOnce, TasksEndOnce, BarriersWait, ReductionsCombine};
+
+use om_task::laws::born_below;
+use om_team::laws::partition;
 
 /// In the state in which a program starts no worker is inside of a critical region.
 pub fn start_excludes()
@@ -56,6 +61,20 @@ pub fn all_are_given_out()
     ensures { AllAreGivenOut }
 {}
 
+/// Each iteration that a member begins of a loop with a static schedule lies in a chunk that the schedule gives it.
+pub fn static_is_own()
+    ensures { StaticIsOwn }
+{}
+
+/// No two steps of a run begin the same iteration of such a loop: neither two steps of one member, nor steps of two
+/// whose loops have one schedule and as many iterations, in teams of one size (OpenMP API 5.2, section 11.5.3).
+pub fn static_once()
+    ensures { StaticOnce }
+{
+    runs_are_orderly();
+    partition();
+}
+
 /// No two steps of a run open the same `single` region to run it (OpenMP API 5.2, section 11.1).
 pub fn singles_run_once()
     ensures { SinglesRunOnce }
@@ -99,6 +118,33 @@ pub fn tasks_end_once()
 /// than this one has passed, and where the count of unfinished tasks of its phase is 0 (OpenMP API 5.2, section 15.3).
 pub fn barriers_wait()
     ensures { BarriersWait }
+{}
+
+/// In each state of a run of a valid program the count of a task's children is how many of them are unfinished: made, and
+/// not ended (OpenMP API 5.2, sections 12.5 and 15.5).
+pub fn children_are_counted()
+    ensures { ChildrenAreCounted }
+{
+    born_below();
+}
+
+/// So a task goes on from a `taskwait` only where none of its children is unfinished.
+pub fn children_have_ended()
+    ensures { ChildrenHaveEnded }
+{
+    children_are_counted();
+    taskwaits_wait();
+}
+
+/// A task goes on from a `taskwait` only where the count of its unfinished children is 0 (OpenMP API 5.2, section 15.5).
+pub fn taskwaits_wait()
+    ensures { TaskwaitsWait }
+{}
+
+/// A task closes a task group only where the count of the unfinished tasks of this group is 0 (OpenMP API 5.2, section
+/// 15.4).
+pub fn groups_wait()
+    ensures { GroupsWait }
 {}
 
 /// A step of a reduction after which its worker runs on combines the copy with the original, and changes no other

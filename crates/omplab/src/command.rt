@@ -11,12 +11,11 @@ const STATUSES: &str = "With --version alone, standard output tells the version.
 Exit status:
   0  it is done, and nothing bad was found; or help, or the version is told
   1  something bad was found: `hunt` a schedule, `explore` a second end, a fault or a race, `races` a race,
-     `check` a source that is refused; `port` has a text that is refused, or that --strict holds back;
-     `report` one of these
+     `check` a source that is refused; `port` has a text that is refused, or that --strict holds back
   2  wrong words
   3  a fault, told on standard error: H3 a read failed, H4 a write failed, H5 no memory
-  4  nothing bad was found, and not all was looked at: `explore`, `races` and `report`
-  5  the source is refused (but by `check`, `port` and `report`); standard error tells why and where";
+  4  nothing bad was found, and not all was looked at: `explore` and `races`
+  5  the source is refused (but by `check` and `port`); standard error tells why and where";
 
 const SESSION: &str =
     "Without FILE, standard input holds the source up to a line `%%`, and then commands of ompback.
@@ -150,21 +149,6 @@ fn expect<'a>(alloc: Global) -> Arg<'a> {
         .action(ArgAction::Set)
 }
 
-fn report<'a>(alloc: Global) -> AllocResult<Command<'a>> {
-    let command = Command::new(alloc, "report")
-        .about("Writes one page of HTML: what check, port, run, explore and hunt say of a program")
-        .after_help(
-            "A source that is refused is ported, and what is run is its port, if that is accepted.
-Where there are more states than --states allows, or something bad was found in them, schedules are tried by chance:
-the first bad one is shown with its picture, its script, and all of its steps.",
-        );
-    let command = command.arg(states(alloc, "100000"));
-    let command = with(command, first_seed(alloc));
-    let command = with(command, seeds(alloc));
-    let command = with(command, steps(alloc));
-    with(command, file(alloc, true))
-}
-
 fn script<'a>(alloc: Global) -> AllocResult<Command<'a>> {
     let command = Command::new(alloc, "script")
         .about("Writes the steps that a session leaves as a script for ompback")
@@ -238,21 +222,20 @@ fn session<'a>(alloc: Global) -> AllocResult<Arg<'a>> {
 
 // A command with the limits of an exploration, and its file.
 fn limited<'a>(alloc: Global, command: Command<'a>) -> AllocResult<Command<'a>> {
-    let command = command.arg(states(alloc, "1000000"));
+    let command = command.arg(states(alloc));
     let command = with(command, most_steps(alloc));
     let command = with(command, way(alloc));
     with(command, file(alloc, true))
 }
 
-// How many states are looked at; so many where it is not told.
-fn states<'a>(alloc: Global, usual: &'a str) -> Arg<'a> {
+fn states<'a>(alloc: Global) -> Arg<'a> {
     number(
         alloc,
         "states",
         "M",
         "How many states are looked at; where there are more, the answer is not complete",
     )
-    .default_value(usual)
+    .default_value("1000000")
 }
 
 fn most_steps<'a>(alloc: Global) -> Arg<'a> {
@@ -284,18 +267,6 @@ fn draw<'a>(alloc: Global) -> AllocResult<Command<'a>> {
         .about("Draws the steps that a session leaves, and what depends on what, as a page of HTML")
         .after_help(SESSION)
         .arg(file(alloc, false))
-}
-
-fn dap<'a>(alloc: Global) -> AllocResult<Command<'a>> {
-    Ok(
-        Command::new(alloc, "dap")
-            .about(
-                "Serves an editor that speaks the Debug Adapter Protocol, over standard input and output",
-            )
-            .after_help(
-                "The editor names the source. N is the number of workers where it names none. Status 1: the input is no session.",
-            ),
-    )
 }
 
 fn port<'a>(alloc: Global) -> AllocResult<Command<'a>> {
@@ -333,12 +304,10 @@ pub(crate) fn omplab<'a>(alloc: Global) -> AllocResult<Command<'a>> {
     let command = command.arg(threads(alloc));
     let command = over(command, check(alloc));
     let command = over(command, port(alloc));
-    let command = over(command, report(alloc));
     let command = over(command, hunt(alloc));
     let command = over(command, explore(alloc));
     let command = over(command, races(alloc));
     let command = over(command, script(alloc));
     let command = over(command, notes(alloc));
-    let command = over(command, draw(alloc));
-    over(command, dap(alloc))
+    over(command, draw(alloc))
 }

@@ -10,10 +10,10 @@ use om_shell::{ShellFault, send};
 use om_shell_commands::push_numbered;
 use std::io::Write;
 
-/// Shows how many states and steps there are, where that is watched.
+// Shows how many states and steps there are, where that is watched.
 #[derive(Drop)]
-pub(crate) struct Count<'a, 'b, 'c, H> {
-    pub(crate) host: &'a Host<'b, 'c, H>,
+struct Count<'a, 'b, 'c, H> {
+    host: &'a Host<'b, 'c, H>,
 }
 
 impl<H> Watch for Count<'_, '_, '_, H> {

@@ -3,9 +3,7 @@
 //! - `command` names the subcommands, and `words` reads the command line. `main` joins it with files and
 //!   streams, and `faults` says on standard error why there is no answer.
 //! - `subcommands` does each over any streams: `check`, `hunt`, `script`, `notes`, `draw`; `port` does `port`,
-//!   `explore` both `explore` and `races`, `judge` `races --session`, and `report` does `report`. A `Meter` tells
-//!   how far a hunt is.
-//!   `explore` both `explore` and `races`, `judge` `races --session`, and `dap` `dap`. A `Meter` tells how far a hunt is.
+//!   `explore` both `explore` and `races`, and `judge` `races --session`. A `Meter` tells how far a hunt is.
 //! - A new subcommand is a crate of its own, with its part in `command`, `words` and `subcommands`, and a row
 //!   of `tests/subcommands.py`.
 #![tactic(auto)]
@@ -13,22 +11,18 @@
 ghost use Rattle.std.specs.Prelude.{◌<◌, ◌≤◌};
 
 mod command;
-mod dap;
 mod explore;
 mod faults;
 mod judge;
 mod meter;
 mod port;
-mod report;
 mod subcommands;
 mod words;
 
-use crate::dap::dap;
 use crate::explore::explore;
 use crate::faults::{source_in, told};
 use crate::judge::judge;
 use crate::port::port;
-use crate::report::report;
 use crate::subcommands::{Host, Search, check, draw, explain, hunt, keep, plain};
 use crate::words::{Asked, Words, ask_for_version, words_in};
 use clap::Error;
@@ -56,17 +50,15 @@ fn file_of<'a>(asked: Asked<'a>) -> Option<&'a str> {
         Asked::Port { file, .. } => Some(file),
         Asked::Hunt { file, .. } => Some(file),
         Asked::Explore { file, .. } => Some(file),
-        Asked::Report { file, .. } => Some(file),
         Asked::Judge { file } => Some(file),
         Asked::Notes { file } => Some(file),
         Asked::Script { file, .. } => file,
         Asked::Draw { file } => file,
-        Asked::Dap => None,
     }
 }
 
 // Does what is asked for over standard input and output, and answers the exit status.
-fn done<R: Runtime + AllocGlobal + Threads + Wait + Sync>(
+fn done<R: Runtime + Threads + Wait + Sync>(
     host: &Host<'_, '_, R>,
     asked: Asked<'_>,
 ) -> Result<u8, ShellFault>
@@ -105,20 +97,6 @@ fn done<R: Runtime + AllocGlobal + Threads + Wait + Sync>(
             };
             explore(host, &question, &mut writer)
         }
-        Asked::Report {
-            states,
-            first,
-            count,
-            steps,
-            ..
-        } => {
-            let search = Search {
-                seeds: Seeds::from(first, count),
-                steps,
-                expected: None,
-            };
-            report(host, states, search, &mut writer)
-        }
         Asked::Judge { .. } => judge(host, &mut host.rt.reader(), &mut writer),
         Asked::Notes { .. } => explain(host, &mut host.rt.reader(), &mut writer),
         Asked::Script {
@@ -127,7 +105,6 @@ fn done<R: Runtime + AllocGlobal + Threads + Wait + Sync>(
         } => plain(host, most, &mut host.rt.reader(), &mut writer),
         Asked::Script { cone, .. } => keep(host, cone, &mut host.rt.reader(), &mut writer),
         Asked::Draw { .. } => draw(host, &mut host.rt.reader(), &mut writer),
-        Asked::Dap => dap(host, &mut host.rt.reader(), &mut writer),
     }
 }
 
@@ -141,11 +118,7 @@ struct Place {
 }
 
 // Does what the words ask for, and answers the exit status.
-fn status_of<R: Runtime + AllocGlobal + Threads + Wait + Sync>(
-    rt: &R,
-    place: Place,
-    words: Words<'_>,
-) -> u8
+fn status_of<R: Runtime + Threads + Wait + Sync>(rt: &R, place: Place, words: Words<'_>) -> u8
     requires least { 0 < words.workers }
     requires most { words.workers ≤ 32 }
 {

@@ -302,8 +302,8 @@ pub(crate) fn within(fault: ShellFault) -> ShellFault {
     }
 }
 
-/// Writes a text, and answers the exit status that goes with it.
-pub(crate) fn written<W: Write>(writer: &mut W, text: &[u8], status: u8) -> Result<u8, ShellFault> {
+// Writes a text, and answers the exit status that goes with it.
+fn written<W: Write>(writer: &mut W, text: &[u8], status: u8) -> Result<u8, ShellFault> {
     send(writer, text)?;
     Ok(status)
 }

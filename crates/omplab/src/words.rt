@@ -44,18 +44,6 @@ pub enum Asked<'a> {
         /// What the program is to print; where it is `None`, what `run` prints.
         expected: Option<&'a str>,
     },
-    /// To write one page about a program.
-    Report {
-        file: &'a str,
-        /// How many states are stored at most where all schedules are looked at.
-        states: u64,
-        /// The first seed of the hunt, from 1 on.
-        first: u64,
-        /// How many schedules are tried, from 1 on.
-        count: u64,
-        /// How many steps a schedule has at most, from 1 on.
-        steps: u64,
-    },
     /// To look at all schedules.
     Explore {
         file: &'a str,
@@ -85,8 +73,6 @@ pub enum Asked<'a> {
     Draw {
         file: Option<&'a str>,
     },
-    /// To serve an editor.
-    Dap,
 }
 
 /// Whether the words, the first of which names the program, ask for its version and for nothing else.
@@ -153,7 +139,6 @@ fn asked_by<'a>(name: &str, given: &ArgMatches<'a>) -> Option<Asked<'a>> {
             list: given.get_flag("list"),
         },
         "hunt" => hunt_by(file?, given)?,
-        "report" => report_by(file?, given)?,
         "explore" => explore_by(file?, Subject::Ends, given)?,
         "races" => races_by(file?, given)?,
         "script" => Asked::Script {
@@ -163,7 +148,6 @@ fn asked_by<'a>(name: &str, given: &ArgMatches<'a>) -> Option<Asked<'a>> {
         },
         "notes" => Asked::Notes { file: file? },
         "draw" => Asked::Draw { file },
-        "dap" => Asked::Dap,
         _ => return None,
     })
 }
@@ -194,17 +178,6 @@ fn explore_by<'a>(file: &'a str, subject: Subject, given: &ArgMatches<'a>) -> Op
 fn plain_by(given: &ArgMatches<'_>) -> Option<Option<u64>> {
     let most = given.get_one::<u64>("steps")?;
     Some(given.get_flag("plain").then_some(most))
-}
-
-// What a report asks for.
-fn report_by<'a>(file: &'a str, given: &ArgMatches<'a>) -> Option<Asked<'a>> {
-    Some(Asked::Report {
-        file,
-        states: given.get_one::<u64>("states")?,
-        first: given.get_one::<u64>("first-seed")?,
-        count: given.get_one::<u64>("seeds")?,
-        steps: given.get_one::<u64>("steps")?,
-    })
 }
 
 // What a hunt asks for.

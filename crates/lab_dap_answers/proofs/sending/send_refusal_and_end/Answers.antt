@@ -1,5 +1,0 @@
-use Rattle.lab_dap_answers.proofs.Sent.{sent_append}
-use Rattle.lab_dap_answers.proofs.sending.send_refusal_and_end.Goals as goal
-
-pub returns : goal.returns
-returns c = sent_append c.args.outbox.now c.send_refusal.new.outbox c.send_named.new.outbox _ _ c.in_ok-send_refusal.ensures c.in_ok-send_named.ensures

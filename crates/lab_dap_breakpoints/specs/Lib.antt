@@ -1,3 +1,0 @@
-pub mod Wanted
-pub mod Points
-pub mod Set

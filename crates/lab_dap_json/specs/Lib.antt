@@ -1,3 +1,0 @@
-pub mod Fields
-pub mod Incoming
-pub mod Outgoing

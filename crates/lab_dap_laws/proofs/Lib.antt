@@ -1,4 +1,0 @@
-pub mod Ends
-mod Fronts
-pub mod Within
-mod Responses

@@ -1,2 +1,0 @@
-pub mod Responses
-pub mod Capabilities

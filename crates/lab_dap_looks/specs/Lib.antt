@@ -1,6 +1,0 @@
-pub mod Frames
-pub mod Variables
-pub mod Cells
-pub mod Lines
-pub mod Locks
-pub mod Visible

@@ -1,4 +1,0 @@
-pub mod Fields
-pub mod Commands
-pub mod Arguments
-pub mod Requests

@@ -1,4 +1,0 @@
-mod Texts
-mod Talks
-mod Replies
-mod Reading

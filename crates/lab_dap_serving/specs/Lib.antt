@@ -1,3 +1,0 @@
-pub mod Replies
-pub mod Talks
-pub mod Steps

@@ -1,3 +1,0 @@
-pub mod Stops
-pub mod Changes
-pub mod Tellings

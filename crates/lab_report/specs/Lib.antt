@@ -1,4 +1,0 @@
-pub mod Hidings
-pub mod Showings
-pub mod Trials
-pub mod Reports

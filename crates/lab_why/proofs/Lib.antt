@@ -1,2 +1,0 @@
-mod Accessing
-mod Losing
